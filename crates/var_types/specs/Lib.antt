@@ -1,0 +1,12 @@
+pub mod Guid
+pub mod Units
+pub mod Name
+pub mod Key
+pub mod Attributes
+pub mod State
+pub mod Room
+pub mod Get
+pub mod Set
+pub mod Step
+pub mod History
+pub mod Session

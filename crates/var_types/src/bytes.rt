@@ -1,0 +1,94 @@
+ghost use Rattle.std.specs.Prelude.{◌≡◌, ◌==◌, [], ◌++◌, IfOk, OnOk, OnErr};
+ghost use Rattle.std.proofs.Common.{rules};
+ghost use Rattle.std.specs.Cmp.Rules.{comparing};
+ghost use lib.Pointwise.{pointwise};
+
+use crate::OutOfMemory;
+use std::alloc::{AllocError, Global};
+use std::marker::Model;
+
+/// A list of bytes that grows at its end.
+#[derive(Debug, Drop)]
+pub struct Bytes {
+    items: Vec<u8>,
+}
+
+impl Model for Bytes {
+    ghost use Rattle.std.specs.Prelude.{ℕ, List};
+
+    ghost Value = { List ℕ };
+
+    ghost view = { λ b. b.items.items };
+}
+
+impl Bytes {
+    /// No bytes; takes no memory.
+    pub fn new(alloc: Global) -> Self
+        ensures { result ≡ [] }
+    {
+        Bytes {
+            items: Vec::new(alloc),
+        }
+    }
+
+    /// The bytes of a vector, without a copy.
+    pub fn from_vec(items: Vec<u8>) -> Self
+        ensures { result ≡ items.items }
+    {
+        Bytes { items }
+    }
+
+    pub fn copy(alloc: Global, bytes: &[u8]) -> Result<Self, OutOfMemory>
+        ensures { IfOk result (λ b. b ≡ bytes.now) }
+    {
+        Ok(Bytes {
+            items: bytes.to_vec(alloc)?,
+        })
+    }
+
+    /// Appends the bytes in amortised time; the list stays as it was where memory is wanting.
+    pub fn append(&mut self, bytes: &[u8]) -> Result<(), OutOfMemory>
+        ensures ok { OnOk result (self.new ≡ self.old ++ bytes.now) }
+        ensures err { OnErr result (self.new ≡ self.old) }
+    {
+        self.items.extend_from_slice(bytes)?;
+        Ok(())
+    }
+
+    pub fn as_slice(&self) -> &[u8]
+        ensures { result.now ≡ self.now }
+    {
+        &self.items
+    }
+
+    /// The vector behind the list, without a copy.
+    pub fn into_vec(self) -> Vec<u8>
+        ensures { result.items ≡ self }
+    {
+        self.items
+    }
+}
+
+impl Clone for Bytes {
+    ghost is_clone = { λ b c. c ≡ b };
+
+    fn clone(&self) -> Result<Self, AllocError> {
+        Ok(Bytes {
+            items: self.items.to_vec(*self.items.allocator())?,
+        })
+    }
+}
+
+impl PartialEq for Bytes {
+    ghost eq = { pointwise ◌==◌ };
+
+    ghost laws = { Prim.search (comparing, rules) };
+
+    fn eq(&self, other: &Self) -> bool {
+        self.items.as_slice() == other.items.as_slice()
+    }
+}
+
+impl Eq for Bytes {
+    ghost laws = { Prim.search (comparing, rules) };
+}

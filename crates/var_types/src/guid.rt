@@ -1,0 +1,55 @@
+ghost use Rattle.std.specs.Prelude.{◌≡◌, ◌++◌, IfOk, OnOk, OnErr};
+ghost use Rattle.uuid.specs.Parts.{swap_fields};
+ghost use Rattle.uuid.specs.Text.{parsed};
+
+use crate::{Bytes, OutOfMemory};
+use thiserror::Error;
+use uuid::Uuid;
+
+/// A text is none of a GUID.
+#[derive(Clone, Copy, Debug, PartialEq, Eq, Error)]
+#[error("not a GUID")]
+pub struct NotAGuid;
+
+/// A GUID as UEFI stores it: the first three fields of its text are little-endian (UEFI 2.10, appendix A).
+#[derive(Clone, Copy, Debug, PartialEq, Eq, PartialOrd, Ord)]
+pub struct Guid {
+    pub bytes: [u8; 16],
+}
+
+impl Guid {
+    ghost use Rattle.var_types.specs.Guid.{guid_of, guid_text};
+
+    /// The GUID of a text in one of the forms that `uuid` reads: hyphenated, simple, braced or URN, in either case.
+    pub fn read(text: &str) -> Result<Self, NotAGuid>
+        ensures { result ≡ guid_of text.now }
+    {
+        Self::read_bytes(text.as_bytes())
+    }
+
+    /// The GUID of a text that is given as its bytes.
+    #[tactic(auto, unfolding(crate::specs::Guid::guid_of))]
+    pub fn read_bytes(text: &[u8]) -> Result<Self, NotAGuid>
+        ensures { result ≡ guid_of text.now }
+    {
+        match Uuid::try_parse_ascii(text) {
+            Ok(uuid) => Ok(Guid {
+                bytes: uuid.to_bytes_le(),
+            }),
+            Err(_) => Err(NotAGuid),
+        }
+    }
+
+    #[tactic(auto, unfolding(crate::specs::Guid::guid_text))]
+    /// Appends the 36 characters of the hyphenated form in lower case.
+    pub fn write(&self, out: &mut Bytes) -> Result<(), OutOfMemory>
+        ensures ok { OnOk result (out.new ≡ out.old ++ guid_text self.now) }
+        ensures err { OnErr result (out.new ≡ out.old) }
+    {
+        let mut buffer = Uuid::encode_buffer();
+        let text = Uuid::from_bytes_le(self.bytes)
+            .hyphenated()
+            .encode_lower(&mut buffer);
+        out.append(text.as_bytes())
+    }
+}

@@ -1,0 +1,35 @@
+//! The types of the variable services: names, keys, variables, calls and replies, and the definitions that every layer above cites.
+#![tactic(auto)]
+
+mod answered;
+pub mod attributes;
+mod bytes;
+mod call;
+mod guid;
+mod key;
+mod name;
+mod out_of_memory;
+mod policy;
+mod reason;
+mod reply;
+mod stamp;
+mod store;
+mod units;
+mod variable;
+mod verdict;
+
+pub use answered::{Answered, Route};
+pub use bytes::Bytes;
+pub use call::{Call, GetCall, SetCall};
+pub use guid::{Guid, NotAGuid};
+pub use key::Key;
+pub use name::{NameFault, check_name};
+pub use out_of_memory::OutOfMemory;
+pub use policy::{Lock, Policy};
+pub use reason::SetReason;
+pub use reply::{GetReply, Reply, SetReply};
+pub use stamp::Stamp;
+pub use store::Store;
+pub use units::{Units, UnitsFault};
+pub use variable::Variable;
+pub use verdict::Verdict;

@@ -1,0 +1,6 @@
+/// Where a variable is kept.
+#[derive(Clone, Copy, Debug, PartialEq, Eq)]
+pub enum Store {
+    NonVolatile,
+    Volatile,
+}

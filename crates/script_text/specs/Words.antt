@@ -1,0 +1,113 @@
+use Rattle.std.specs.Prelude.{ℕ, ◌==◌, ◌&&◌, ◌||◌, not, Bool, true, false, List, [], ◌∷◌, codes, if◌then◌else◌, Option, Some, None, Result, Ok, Err}
+use Rattle.std.specs.List.{list_any}
+use Rattle.var_types.specs.declared.call.Call.{Call}
+use Rattle.var_types.specs.declared.call.Call.TheVariants as call
+use Rattle.var_types.specs.declared.guid.Guid.{Guid}
+use Rattle.var_types.specs.declared.guid.NotAGuid.{NotAGuid}
+use Rattle.var_types.specs.declared.verdict.Verdict.TheVariants.{Good}
+use Rattle.var_types.specs.Guid.{guid_of}
+use Rattle.script_text.specs.declared.reason.LineReason.{LineReason}
+use Rattle.script_text.specs.declared.reason.LineReason.TheVariants as reason
+use Rattle.script_text.specs.declared.verb.Verb.{Verb}
+use Rattle.script_text.specs.declared.verb.Verb.TheVariants as verb
+use Rattle.script_text.specs.Lines.{words_of, is_text, is_comment}
+use Rattle.script_text.specs.Names.{name_of}
+use Rattle.script_text.specs.Numbers.{number_of, bytes_of, processor_of}
+use lib.Pointwise.{pointwise}
+
+-- the second step, where the first found no reason to refuse
+infixl 10 ◌>>=◌
+abbrev pub ◌>>=◌ : {A B : Type 0} → Result A LineReason → (A → Result B LineReason) → Result B LineReason
+(Ok x) >>= f = f x
+(Err e) >>= f = Err e
+
+-- whether a word is this text
+abbrev pub is_word : List ℕ → List ℕ → Bool
+is_word text word = pointwise ◌==◌ word text
+
+-- whether a word is a verb of the format whose lines are not read yet
+abbrev pub is_later_verb : List ℕ → Bool
+is_later_verb word =
+    is_word (codes "next") word || is_word (codes "register") word || is_word (codes "lock") word || is_word (codes "disable") word
+    || is_word (codes "enabled") word || is_word (codes "policy") word || is_word (codes "exitboot") word
+
+-- the verb of a word (this project's own)
+unfoldable pub verb_of : List ℕ → Result Verb LineReason
+verb_of word =
+    if is_word (codes "get") word then Ok verb.Get
+    else if is_word (codes "set") word then Ok verb.Set
+    else if is_later_verb word then Ok verb.Later
+    else Err reason.Verb
+
+-- the GUID of a word
+abbrev pub guid_read : Result Guid NotAGuid → Result Guid LineReason
+guid_read (Ok guid) = Ok guid
+guid_read (Err e) = Err reason.Guid
+
+unfoldable pub guid_word : List ℕ → Result Guid LineReason
+guid_word word = guid_read (guid_of word)
+
+-- a get by its GUID, its name and its room
+unfoldable pub get_call : List ℕ → List ℕ → List ℕ → Result Call LineReason
+get_call guid name room = do
+  guid ← guid_word guid
+  name ← name_of name
+  room ← number_of room
+  Ok (call.Get (record { guid = guid; name = name; room = room }))
+
+-- the attributes that a set may have so far: those of a volatile variable with both access bits
+abbrev pub is_set_so_far : ℕ → Bool
+is_set_so_far attributes = attributes == 6
+
+-- a set of checked parts; one with a verdict, or with other attributes, is not read yet
+abbrev pub set_so_far : Bool → Guid → List ℕ → ℕ → List ℕ → Result Call LineReason
+set_so_far has_verdict guid name attributes bytes =
+    if not has_verdict && is_set_so_far attributes
+    then Ok (call.Set (record { guid = guid; name = name; attributes = attributes; bytes = bytes; verdict = Good }))
+    else Err reason.Later
+
+-- a set by its GUID, its name, its attributes and its bytes
+unfoldable pub set_call : Bool → List ℕ → List ℕ → List ℕ → List ℕ → Result Call LineReason
+set_call has_verdict guid name attributes bytes = do
+  guid ← guid_word guid
+  name ← name_of name
+  attributes ← number_of attributes
+  bytes ← bytes_of bytes
+  set_so_far has_verdict guid name attributes bytes
+
+-- the words behind `get`
+unfoldable pub get_words : List (List ℕ) → Result Call LineReason
+get_words (guid ∷ name ∷ room ∷ []) = get_call guid name room
+get_words _ = Err reason.Words
+
+-- the words behind `set`
+unfoldable pub set_words : List (List ℕ) → Result Call LineReason
+set_words (guid ∷ name ∷ attributes ∷ bytes ∷ []) = set_call false guid name attributes bytes
+set_words (guid ∷ name ∷ attributes ∷ bytes ∷ verdict ∷ []) = set_call true guid name attributes bytes
+set_words _ = Err reason.Words
+
+-- the words behind a verb; so far, processor 0 alone makes calls
+unfoldable pub verb_words : ℕ → Verb → List (List ℕ) → Result Call LineReason
+verb_words processor verb.Get rest = if processor == 0 then get_words rest else Err reason.Later
+verb_words processor verb.Set rest = if processor == 0 then set_words rest else Err reason.Later
+verb_words processor verb.Later rest = Err reason.Later
+
+-- the words behind the processor's number
+unfoldable pub call_words : ℕ → List (List ℕ) → Result Call LineReason
+call_words processor [] = Err reason.Verb
+call_words processor (word ∷ rest) = verb_of word >>= λ v. verb_words processor v rest
+
+-- the call of a line's words; a line without words has none
+unfoldable pub words_call : List (List ℕ) → Result (Option Call) LineReason
+words_call [] = Ok None
+words_call (word ∷ rest) = do
+  processor ← processor_of word
+  call ← call_words processor rest
+  Ok (Some call)
+
+-- the call of a line, if it has one, or the first reason to refuse it (this project's own)
+unfoldable pub line_call : List ℕ → Result (Option Call) LineReason
+line_call line =
+    if is_comment line then Ok None
+    else if not (is_text line) then Err reason.Text
+    else words_call (words_of line)

@@ -1,0 +1,8 @@
+/// What the second word of a script's line asks for.
+#[derive(Clone, Copy, Debug, PartialEq, Eq)]
+pub enum Verb {
+    Get,
+    Set,
+    /// A verb of the format whose lines are not read yet.
+    Later,
+}

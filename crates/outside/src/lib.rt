@@ -2,12 +2,15 @@
 #![tactic(auto)]
 
 mod failed;
+mod listed;
 mod mem_sink;
 mod mem_source;
 mod sink;
 mod source;
 mod std_sink;
 mod std_source;
+#[cfg(test)]
+mod tests;
 
 pub use failed::Failed;
 pub use mem_sink::MemSink;

@@ -3,6 +3,7 @@ ghost use Rattle.std.specs.Io.KnownBytes.{Appends};
 ghost use Rattle.outside.specs.Faults.{HasRisen, one_more};
 ghost use Rattle.outside.specs.Written.{AppendsPart};
 
+use crate::listed::is_listed;
 use crate::{Failed, Sink};
 use std::marker::Model;
 
@@ -23,11 +24,11 @@ impl Model for MemSink {
     ghost Value = { Shelf };
 
     ghost view = { λ s. record {
-        held = take s.filled s.room.items;
-        space = vec_len s.room - s.filled;
-        fails = s.fails.items;
-        calls = s.calls;
-        faults = s.faults;
+      held = take s.filled s.room.items;
+      space = vec_len s.room - s.filled;
+      fails = s.fails.items;
+      calls = s.calls;
+      faults = s.faults;
     } };
 
     ghost invariant = { λ s. s.filled ≤ vec_len s.room };
@@ -65,8 +66,24 @@ impl Sink for MemSink {
         ensures causes { IsErr result ↔ (Contains self.old.fails self.old.calls ⊎ (self.old.space < length bytes.now)) }
         ensures gained { OnOk result (self.new ≡ record self.old { held = self.old.held ++ bytes.now; space = self.old.space - length bytes.now; calls = one_more self.old.calls }) }
         ensures err { OnErr result (self.new ≡ record self.old { calls = one_more self.old.calls; faults = one_more self.old.faults }) }
-        // and the clauses of the trait, repeated under their names
+
+        ensures ok { OnOk result (Appends (Some self.old.held) (Some self.new.held) bytes.now) }
+        ensures part { OnErr result (AppendsPart (Some self.old.held) (Some self.new.held) bytes.now) }
+        ensures told { is_some (Some self.new.held) ≡ is_some (Some self.old.held) }
+        ensures counted { OnOk result (self.new.faults ≡ self.old.faults) }
+        ensures failed { OnErr result (HasRisen self.old.faults self.new.faults) }
+        ensures never_falls { self.old.faults ≤ self.new.faults }
     {
-        todo
+        let call = self.calls;
+        self.calls = call.saturating_add(1);
+        let space = self.room.len() - self.filled;
+        if is_listed(&self.fails, call) || space < bytes.len() {
+            self.faults = self.faults.saturating_add(1);
+            return Err(Failed);
+        }
+        let end = self.filled + bytes.len();
+        self.room[self.filled..end].copy_from_slice(bytes);
+        self.filled = end;
+        Ok(())
     }
 }

@@ -2,6 +2,7 @@ ghost use Rattle.std.specs.Prelude.{◌≡◌, ◌≤◌, ◌<◌, ◌↔◌, �
 ghost use Rattle.std.specs.Io.KnownBytes.{Consumes, IsAtEnd};
 ghost use Rattle.outside.specs.Faults.{HasRisen, one_more};
 
+use crate::listed::is_listed;
 use crate::{Failed, Source};
 use std::marker::Model;
 
@@ -22,10 +23,10 @@ impl Model for MemSource {
     ghost Value = { Supply };
 
     ghost view = { λ s. record {
-        left = drop s.at s.bytes.items;
-        fails = s.fails.items;
-        calls = s.calls;
-        faults = s.faults;
+      left = drop s.at s.bytes.items;
+      fails = s.fails.items;
+      calls = s.calls;
+      faults = s.faults;
     } };
 
     ghost invariant = { λ s. s.at ≤ vec_len s.bytes };
@@ -57,8 +58,26 @@ impl Source for MemSource {
         ensures full { IfOk result (λ n. n ≡ min (length into.new) (length self.old.left)) }
         ensures ok { IfOk result (λ n. self.new ≡ record self.old { left = drop n self.old.left; calls = one_more self.old.calls }) }
         ensures err { OnErr result (self.new ≡ record self.old { calls = one_more self.old.calls; faults = one_more self.old.faults }) }
-        // and the clauses of the trait, repeated under their names
+
+        ensures bound { IfOk result (λ n. n ≤ length into.new) }
+        ensures bytes { IfOk result (λ n. Consumes (Some self.old.left) (Some self.new.left) (take n into.new)) }
+        ensures end { IfOk result (λ n. n ≡ 0 → 0 < length into.new → IsAtEnd (Some self.new.left)) }
+        ensures kept { OnErr result (Some self.new.left ≡ Some self.old.left) }
+        ensures told { is_some (Some self.new.left) ≡ is_some (Some self.old.left) }
+        ensures counted { OnOk result (self.new.faults ≡ self.old.faults) }
+        ensures failed { OnErr result (HasRisen self.old.faults self.new.faults) }
+        ensures never_falls { self.old.faults ≤ self.new.faults }
     {
-        todo
+        let call = self.calls;
+        self.calls = call.saturating_add(1);
+        if is_listed(&self.fails, call) {
+            self.faults = self.faults.saturating_add(1);
+            return Err(Failed);
+        }
+        let left = &self.bytes[self.at..];
+        let count = left.len().min(into.len());
+        into[..count].copy_from_slice(&left[..count]);
+        self.at += count;
+        Ok(count)
     }
 }

@@ -1,0 +1,5 @@
+pub mod DigitLemmas
+pub mod NameLemmas
+pub mod LineLemmas
+pub mod ScriptLemmas
+pub mod TextLemmas

@@ -1,7 +1,12 @@
 pub mod Numbers
+pub mod Digits
 pub mod Names
+pub mod FirstUnit
 pub mod Lines
 pub mod Words
 pub mod Script
+pub mod CallsBefore
 pub mod Texts
+pub mod Appended
 pub mod Gives
+pub mod GivesLine

@@ -1,4 +1,8 @@
+ghost use Rattle.std.specs.Prelude.{◌≡◌};
+ghost use Rattle.script_text.specs.declared.fault.ScriptFault.TheVariants.{OutOfMemory};
+
 use crate::LineReason;
+use std::alloc::{AllocError, AllocFailed};
 use thiserror::Error;
 
 /// Why a script is refused.
@@ -15,4 +19,20 @@ pub enum ScriptFault {
     TooManyCalls { processor: u8, limit: u32 },
     #[error("out of memory")]
     OutOfMemory,
+}
+
+impl From<AllocError> for ScriptFault {
+    ghost from_gives = { λ _ e. e ≡ OutOfMemory };
+
+    fn from(_: AllocError) -> Self {
+        ScriptFault::OutOfMemory
+    }
+}
+
+impl<T: Drop> From<AllocFailed<T>> for ScriptFault {
+    ghost from_gives = { λ _ e. e ≡ OutOfMemory };
+
+    fn from(_: AllocFailed<T>) -> Self {
+        ScriptFault::OutOfMemory
+    }
 }

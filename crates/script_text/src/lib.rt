@@ -2,9 +2,21 @@
 #![tactic(auto)]
 
 mod fault;
+mod line_fault;
+mod lines;
+mod names;
+mod numbers;
 mod reason;
+mod script;
+pub mod text;
 mod verb;
+mod words;
 
 pub use fault::ScriptFault;
 pub use reason::LineReason;
+pub use script::{Script, read_script};
+pub use text::write_call;
 pub use verb::Verb;
+
+#[cfg(test)]
+mod tests;

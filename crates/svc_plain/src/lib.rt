@@ -1,6 +1,11 @@
 //! The one-thread variable service over an ordered map, to which every other way of answering is compared.
 #![tactic(auto)]
 
+mod decision;
 mod plain;
+mod rules;
+#[cfg(test)]
+mod tests;
+mod used;
 
 pub use plain::Plain;

@@ -1,11 +1,28 @@
-ghost use Rattle.std.specs.Prelude.{◌≡◌, true, false, []};
-ghost use Rattle.var_types.specs.State.{start};
+ghost use Rattle.std.specs.Prelude.{◌≡◌, ℕ, ◌^◌, ◌+◌, ◌<◌, ◌≤◌, true, false, [], length, IfSome, Some};
+ghost use Rattle.std.specs.BTreeMap.{get, insert_entry, is_at};
+ghost use Rattle.std.specs.List.Sorted.{IsStrictlySortedBy};
+ghost use Rattle.std.specs.Map.{keys_of, remove_entry};
+ghost use Rattle.std.specs.Option.{option_copied};
+ghost use Rattle.var_types.specs.Attributes.{store_of};
+ghost use Rattle.var_types.specs.Get.{get_reply, get_found};
+ghost use Rattle.var_types.specs.Key.{key_cmp, key_of};
+ghost use Rattle.var_types.specs.Room.{record_size, room_of};
+ghost use Rattle.var_types.specs.Set.{set_step, set_named, set_stored, set_put, set_key, set_change, made_by};
+ghost use Rattle.var_types.specs.State.{start, stored_at, visible_at};
 ghost use Rattle.var_types.specs.Step.{step, lacks_memory};
+ghost use Rattle.svc_plain.specs.Used.{IsCounted, used_of, used_without};
 
+use crate::decision::{Decision, decision_of};
+use crate::rules::{
+    LARGEST_RECORD, key_of, made_by, record_size, room_limit, room_made, room_of, store_of,
+};
+use crate::used::Used;
 use std::alloc::Global;
 use std::collections::BTreeMap;
 use std::marker::Model;
-use var_types::{Call, GetCall, GetReply, Key, Reply, SetCall, SetReason, SetReply, Variable};
+use var_types::{
+    Bytes, Call, GetCall, GetReply, Key, Reply, SetCall, SetReason, SetReply, Variable, check_name,
+};
 
 /// The variable service on one thread, which starts with no variable.
 #[derive(Drop)]
@@ -17,17 +34,235 @@ pub struct Plain {
     limit: u64,
 }
 
+impl Model for Plain {
+    ghost use Rattle.std.specs.Prelude.{true, false, []};
+    ghost use Rattle.var_types.specs.State.{State};
+    ghost use Rattle.svc_plain.specs.Used.{IsCounted};
+
+    ghost Value = { State };
+
+    ghost view = { λ p. record {
+      variables = p.variables.entries;
+      policies = [];
+      policy_on = true;
+      locked = false;
+      runtime = false;
+      made = p.made;
+      limit = p.limit;
+    } };
+
+    ghost invariant = { λ p. IsCounted p.used p.variables.entries };
+}
+
 impl Plain {
     /// A service with no variable, which makes at most `limit` changes.
     pub fn new(alloc: Global, limit: u64) -> Self
         ensures { result ≡ start [] limit }
+    {
+        Plain {
+            alloc,
+            variables: BTreeMap::new(alloc),
+            used: Used {
+                non_volatile: 0,
+                volatile: 0,
+            },
+            made: 0,
+            limit,
+        }
+    }
 
     /// Answers a call as the one-thread service does; where memory is wanting, nothing is changed.
+    #[tactic(auto, unfolding(var_types::specs::Step::step))]
     pub fn step(&mut self, call: &Call) -> Reply
         ensures done { lacks_memory result ≡ false → (result, self.new) ≡ step self.old call.now }
         ensures memory { lacks_memory result ≡ true → self.new ≡ self.old }
+    {
+        match call {
+            Call::Get(get) => Reply::Get(self.get_reply(get)),
+            Call::Set(set) => Reply::Set(self.set_step(set)),
+        }
+    }
 
     /// How many changes were made.
     pub fn made(&self) -> u64
         ensures { result ≡ self.now.made }
+    {
+        self.made
+    }
+
+    /// A get, by its name.
+    #[tactic(auto, unfolding(var_types::specs::Get::get_reply))]
+    fn get_reply(&self, call: &GetCall) -> GetReply
+        ensures { lacks_memory (Reply.Get result) ≡ false → result ≡ get_reply self.now call.now }
+    {
+        match check_name(call.name.as_slice()) {
+            Err(_) => GetReply::NotFound,
+            Ok(()) => self.get_visible(call),
+        }
+    }
+
+    /// A get under a well-formed name.
+    fn get_visible(&self, call: &GetCall) -> GetReply
+        ensures { lacks_memory (Reply.Get result) ≡ false
+            → result ≡ get_found (visible_at self.now (key_of call.now.guid call.now.name)) call.now.room }
+    {
+        get_stored(self.alloc, &self.variables, call)
+    }
+
+    /// A set, by its name.
+    #[tactic(auto, unfolding(var_types::specs::Set::set_step, var_types::specs::Set::set_named))]
+    fn set_step(&mut self, call: &SetCall) -> SetReply
+        ensures done { lacks_memory (Reply.Set result) ≡ false → (result, self.new) ≡ set_step self.old call.now }
+        ensures memory { lacks_memory (Reply.Set result) ≡ true → self.new ≡ self.old }
+    {
+        match check_name(call.name.as_slice()) {
+            Err(fault) => SetReply::Refused(SetReason::Name(fault)),
+            Ok(()) => self.set_named(call),
+        }
+    }
+
+    /// A set under a well-formed name.
+    #[tactic(auto, unfolding(var_types::specs::Set::set_named))]
+    fn set_named(&mut self, call: &SetCall) -> SetReply
+        ensures done { lacks_memory (Reply.Set result) ≡ false → (result, self.new) ≡ set_named self.old call.now (Ok tt) }
+        ensures memory { lacks_memory (Reply.Set result) ≡ true → self.new ≡ self.old }
+    {
+        let have = record_size(&call.name, &call.bytes);
+        if have > u64::from(LARGEST_RECORD) {
+            return SetReply::Refused(SetReason::Size {
+                have,
+                limit: LARGEST_RECORD,
+            });
+        }
+        match key_of(call.guid, &call.name) {
+            Err(_) => SetReply::OutOfMemory,
+            Ok(key) => self.set_stored(call, key),
+        }
+    }
+
+    /// A set, by what is stored at its key.
+    fn set_stored(&mut self, call: &SetCall, key: Key) -> SetReply
+        requires key { key ≡ set_key call.now }
+        requires size { record_size call.now.name call.now.bytes ≤ LARGEST_RECORD }
+        ensures done { lacks_memory (Reply.Set result) ≡ false
+            → (result, self.new) ≡ set_stored self.old call.now (stored_at self.old key) }
+        ensures memory { lacks_memory (Reply.Set result) ≡ true → self.new ≡ self.old }
+    {
+        let found = self.variables.get(&key);
+        let rest = rest_of(self.used, &key, found);
+        match decision_of(call, found) {
+            Decision::Refuse(reason) => SetReply::Refused(reason),
+            Decision::Remove => self.set_removed(&key, rest),
+            Decision::Same => SetReply::Same,
+            Decision::Write => self.set_put(call, key, rest),
+        }
+    }
+
+    /// Deletes what is stored at a key, after which the totals are `rest`.
+    fn set_removed(&mut self, key: &Key, rest: Used) -> SetReply
+        requires { IsCounted rest (remove_entry (is_at (key_cmp key.now)) self.old.variables) }
+        ensures { (result, self.new) ≡ set_change self.old (remove_entry (is_at (key_cmp key.now)) self.old.variables) }
+    {
+        if self.limit <= self.made {
+            return SetReply::Refused(SetReason::HistoryFull { made: self.made });
+        }
+        self.variables.remove(key);
+        self.used = rest;
+        self.made += 1;
+        SetReply::Ok
+    }
+
+    /// Puts the variable of a set if its store has room, where `rest` has the totals of the other variables.
+    #[tactic(auto, unfolding(var_types::specs::Set::set_put, var_types::specs::Room::room_needed))]
+    fn set_put(&mut self, call: &SetCall, key: Key, rest: Used) -> SetReply
+        requires key { key ≡ set_key call.now }
+        requires size { record_size call.now.name call.now.bytes ≤ LARGEST_RECORD }
+        requires rest { IsCounted rest (remove_entry (is_at (key_cmp key)) self.old.variables) }
+        ensures done { lacks_memory (Reply.Set result) ≡ false → (result, self.new) ≡ set_put self.old call.now }
+        ensures memory { lacks_memory (Reply.Set result) ≡ true → self.new ≡ self.old }
+    {
+        let store = store_of(call.attributes);
+        let need = rest.of(store) + room_made(call);
+        let have = room_limit(store);
+        if need > have {
+            return SetReply::Refused(SetReason::Room { need, have });
+        }
+        self.set_written(call, key, rest.with(store, need))
+    }
+
+    /// Puts the variable of a set, after which the totals are `used`.
+    fn set_written(&mut self, call: &SetCall, key: Key, used: Used) -> SetReply
+        requires { IsStrictlySortedBy key_cmp (keys_of self.old.variables)
+            → IsCounted used (insert_entry key_cmp self.old.variables key (made_by call.now)) }
+        ensures done { lacks_memory (Reply.Set result) ≡ false
+            → (result, self.new) ≡ set_change self.old (insert_entry key_cmp self.old.variables key (made_by call.now)) }
+        ensures memory { lacks_memory (Reply.Set result) ≡ true → self.new ≡ self.old }
+    {
+        if self.limit <= self.made {
+            return SetReply::Refused(SetReason::HistoryFull { made: self.made });
+        }
+        let Ok(variable) = made_by(self.alloc, call) else {
+            return SetReply::OutOfMemory;
+        };
+        match self.variables.insert(key, variable) {
+            Err(_) => SetReply::OutOfMemory,
+            Ok(_) => {
+                self.used = used;
+                self.made += 1;
+                SetReply::Ok
+            }
+        }
+    }
+}
+
+/// The answer from what is stored at a call's key.
+fn get_stored(alloc: Global, variables: &BTreeMap<Key, Variable>, call: &GetCall) -> GetReply
+    requires { (key : Key) → IfSome (get key_cmp variables.now key) (λ variable. length variable.bytes < 2 ^ 32) }
+    ensures { lacks_memory (Reply.Get result) ≡ false
+        → result ≡ get_found (get key_cmp variables.now (key_of call.now.guid call.now.name)) call.now.room }
+{
+    let Ok(key) = key_of(call.guid, &call.name) else {
+        return GetReply::OutOfMemory;
+    };
+    match variables.get(&key) {
+        None => GetReply::NotFound,
+        Some(variable) => get_found(alloc, variable, call.room),
+    }
+}
+
+/// The answer from a variable.
+fn get_found(alloc: Global, variable: &Variable, room: u32) -> GetReply
+    requires { length variable.now.bytes < 2 ^ 32 }
+    ensures { lacks_memory (Reply.Get result) ≡ false → result ≡ get_found (Some variable.now) room }
+{
+    let bytes = variable.bytes.as_slice();
+    let needed = bytes.len() as u32;
+    if room < needed {
+        return GetReply::TooSmall {
+            attributes: variable.attributes,
+            needed,
+        };
+    }
+    match Bytes::copy(alloc, bytes) {
+        Err(_) => GetReply::OutOfMemory,
+        Ok(bytes) => GetReply::Ok {
+            attributes: variable.attributes,
+            bytes,
+        },
+    }
+}
+
+/// The totals without what is stored at a key.
+fn rest_of(used: Used, key: &Key, found: Option<&Variable>) -> Used
+    requires { IfSome (option_copied found)
+        (λ variable. room_of key.now variable ≤ used_of used (store_of variable.attributes)) }
+    ensures { result ≡ used_without used key.now (option_copied found.entry) }
+{
+    match found {
+        None => used,
+        Some(variable) => {
+            let store = store_of(variable.attributes);
+            used.with(store, used.of(store) - room_of(key, variable) as u32)
+        }
+    }
 }

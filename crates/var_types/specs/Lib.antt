@@ -10,3 +10,4 @@ pub mod Set
 pub mod Step
 pub mod History
 pub mod Session
+pub mod Laws

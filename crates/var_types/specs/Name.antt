@@ -1,4 +1,4 @@
-use Rattle.std.specs.Prelude.{ℕ, ◌==◌, List, [], ◌∷◌, length, nat_lt, if◌then◌else◌, Option, Some, None, Result, Ok, Err, position}
+use Rattle.std.specs.Prelude.{ℕ, ◌==◌, List, length, nat_lt, if◌then◌else◌, Option, Some, None, Result, Ok, Err, position}
 use Rattle.var_types.specs.declared.name.NameFault.{NameFault}
 use Rattle.var_types.specs.declared.name.NameFault.TheVariants.{Empty, TooLong, InnerNul}
 

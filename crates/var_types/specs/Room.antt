@@ -1,11 +1,11 @@
-use Rattle.std.specs.Prelude.{ℕ, ◌+◌, ◌*◌, ◌/◌, List, length, sum_by, if◌then◌else◌}
+use Rattle.std.specs.Prelude.{ℕ, ◌+◌, ◌*◌, ◌/◌, List, length, sum_by}
 use Rattle.std.specs.BTreeMap.{is_at}
 use Rattle.std.specs.Map.{remove_entry}
 use Rattle.var_types.specs.declared.key.Key.{Key}
 use Rattle.var_types.specs.declared.store.Store.{Store}
 use Rattle.var_types.specs.declared.store.Store.TheVariants.{NonVolatile, Volatile}
 use Rattle.var_types.specs.declared.variable.Variable.{Variable}
-use Rattle.var_types.specs.Attributes.{has, store_of}
+use Rattle.var_types.specs.Attributes.{store_of}
 use Rattle.var_types.specs.Key.{key_cmp}
 use Rattle.var_types.specs.State.{State}
 

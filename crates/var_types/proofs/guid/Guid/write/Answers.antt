@@ -8,5 +8,5 @@ pub returns-clause-ok : goal.returns-clause-ok
 unfolding guid_text
 returns-clause-ok c =
     let text : c.as_bytes.result.now ≡ hyphenated_text lower (swap_fields c.args.self.now.bytes) =
-        c.as_bytes.ensures.value ∙ c.encode_lower-text.ensures.text ∙ ap (hyphenated_text lower) (c.hyphenated.ensures ∙ c.from_bytes_le.ensures) in
+    c.as_bytes.ensures.value ∙ c.encode_lower-text.ensures.text ∙ ap (hyphenated_text lower) (c.hyphenated.ensures ∙ c.from_bytes_le.ensures) in
     subst (λ (t : List ℕ). OnOk c.append.result (c.append.new.self ≡ c.args.out.now ++ t)) text c.append.ensures.ok

@@ -1,0 +1,294 @@
+//! Lines that are accepted and refused, by tables; in a line, `G` stands for a GUID.
+
+use super::*;
+use std::test::Fail;
+use var_types::{Bytes, Call, Guid, SetCall, Units, Verdict};
+
+const GUID: &[u8] = b"8be4df61-93ca-11d2-aa0d-00e098032b8c";
+
+// A text with the GUID for each `G`.
+fn spelled(rt: &HostRuntime, text: &[u8]) -> Result<Vec<u8>, Fail> {
+    let mut all = Vec::new(rt.alloc());
+    for c in text {
+        if *c == b'G' {
+            all.extend_from_slice(GUID)?;
+        } else {
+            all.push(*c)?;
+        }
+    }
+    Ok(all)
+}
+
+// The texts of the calls of the processors, each with a line feed behind it.
+fn texts_of(rt: &HostRuntime, script: Script) -> Result<Vec<u8>, Fail> {
+    let mut all = Bytes::new(rt.alloc());
+    for calls in &script.into_processors() {
+        for call in calls {
+            write_call(call, &mut all)?;
+            all.append(b"\n")?;
+        }
+    }
+    Ok(all.into_vec())
+}
+
+#[test]
+fn reads(rt: HostRuntime) -> Result<(), Fail> {
+    let table: [(&[u8], &[u8]); 15] = [
+        (b"", b""),
+        (b"\n \n\t\n\r\n", b""),
+        (b"0 get G A 16", b"get G A 16\n"),
+        (b"0 get G A 16\n", b"get G A 16\n"),
+        (b" \t0\tget  G A\t16 \t", b"get G A 16\n"),
+        (b"0 get G A 1\r\n0 get G B 2\r\n", b"get G A 1\nget G B 2\n"),
+        (b"#\x80\xff\x00 any byte\n0 get G A 1", b"get G A 1\n"),
+        (b"0 get G - 0x1F", b"get G - 31\n"),
+        (b"0 get G A 0000000000000000000012", b"get G A 12\n"),
+        (b"0 get G A 4294967295", b"get G A 4294967295\n"),
+        (b"0 get G A 0x00fffFFFFF", b"get G A 4294967295\n"),
+        (b"0 set G A 6 -", b"set G A 0x00000006 -\n"),
+        (b"0 set G A 0x6 01fF", b"set G A 0x00000006 01ff\n"),
+        (b"0 set G %002D 6 00", b"set G %002d 0x00000006 00\n"),
+        (
+            b"0 set G -%0025%000A~! 6 -",
+            b"set G -%0025%000a~! 0x00000006 -\n",
+        ),
+    ];
+    for (text, want) in table {
+        let script = read_script(rt.alloc(), &spelled(&rt, text)?)?;
+        assert_eq!(rt; script.processors(), 1);
+        let texts = texts_of(&rt, script)?;
+        assert_eq!(rt; texts.as_slice(), spelled(&rt, want)?.as_slice());
+    }
+    Ok(())
+}
+
+#[test]
+fn reads_each_form_of_a_guid(rt: HostRuntime) -> Result<(), Fail> {
+    let table: [&[u8]; 5] = [
+        b"0 get 8be4df61-93ca-11d2-aa0d-00e098032b8c A 1",
+        b"0 get 8be4df6193ca11d2aa0d00e098032b8c A 1",
+        b"0 get {8be4df61-93ca-11d2-aa0d-00e098032b8c} A 1",
+        b"0 get urn:uuid:8be4df61-93ca-11d2-aa0d-00e098032b8c A 1",
+        b"0 get 8BE4DF61-93CA-11D2-AA0D-00E098032B8C A 1",
+    ];
+    let want = spelled(&rt, b"get G A 1\n")?;
+    for text in table {
+        let texts = texts_of(&rt, read_script(rt.alloc(), text)?)?;
+        assert_eq!(rt; texts.as_slice(), want.as_slice());
+    }
+    Ok(())
+}
+
+#[test]
+fn refuses_a_line(rt: HostRuntime) -> Result<(), Fail> {
+    let table: [(LineReason, &[&[u8]]); 9] = [
+        (
+            LineReason::Text,
+            &[
+                b"0 get G A 16\r",
+                b"0 get G \x80 1",
+                b"x\x7f",
+                b"8\x00",
+                b" #\xff",
+            ],
+        ),
+        (
+            LineReason::Processor,
+            &[b"x get G A 1", b"8 get", b"9 lock", b"00 get", b"- fly"],
+        ),
+        (
+            LineReason::Verb,
+            &[b"0 fly", b"0", b"1 fly", b"7", b"0 GET G A 1"],
+        ),
+        (
+            LineReason::Later,
+            &[
+                b"1 get G A 9",
+                b"7 set x",
+                b"0 next G - 64",
+                b"0 register",
+                b"0 lock",
+                b"0 disable",
+                b"0 enabled",
+                b"0 policy",
+                b"0 exitboot",
+                b"0 set G A 7 01",
+                b"0 set G A 6 01 good",
+            ],
+        ),
+        (
+            LineReason::Words,
+            &[
+                b"0 get",
+                b"0 get G A",
+                b"0 get x A 1 2",
+                b"0 set G A 6",
+                b"0 set G A 6 01 good x",
+            ],
+        ),
+        (
+            LineReason::Guid,
+            &[b"0 get 8be4 A 1", b"0 get - % x", b"0 set x A 6 01"],
+        ),
+        (
+            LineReason::Name,
+            &[
+                b"0 get G A%00 1",
+                b"0 get G %zzzz x",
+                b"0 get G % 1",
+                b"0 set G %004 x zz",
+            ],
+        ),
+        (
+            LineReason::Number,
+            &[
+                b"0 get G A 12x",
+                b"0 get G A 0x",
+                b"0 get G A 4294967296",
+                b"0 get G A 0x100000000",
+                b"0 get G A 0X10",
+                b"0 get G A -",
+                b"0 set G A 6x zz",
+            ],
+        ),
+        (
+            LineReason::Hex,
+            &[
+                b"0 set G A 6 abc",
+                b"0 set G A 6 zz",
+                b"0 set G A 6 0g good",
+            ],
+        ),
+    ];
+    for (reason, lines) in table {
+        for line in lines {
+            let fault = read_script(rt.alloc(), &spelled(&rt, line)?).err();
+            assert_eq!(rt; fault, Some(ScriptFault::Line { number: 1, reason }));
+        }
+    }
+    Ok(())
+}
+
+#[test]
+fn numbers_lines_from_one(rt: HostRuntime) {
+    let table: [(u32, LineReason, &[u8]); 4] = [
+        (1, LineReason::Verb, b"0 fly\n8\n"),
+        (2, LineReason::Processor, b"# 8\n8\n0 fly\n"),
+        (4, LineReason::Verb, b"\n# x\r\n \n0 fly\n"),
+        (3, LineReason::Text, b"\r\n\t\n\r"),
+    ];
+    for (number, reason, text) in table {
+        let fault = read_script(rt.alloc(), text).err();
+        assert_eq!(rt; fault, Some(ScriptFault::Line { number, reason }));
+    }
+}
+
+// A text of 20,000 calls, and what follows it.
+fn many_calls(rt: &HostRuntime, behind: &[u8]) -> Result<Vec<u8>, Fail> {
+    let mut all = Vec::new(rt.alloc());
+    for _ in 0..20_000 {
+        all.extend_from_slice(b"0 get 8be4df6193ca11d2aa0d00e098032b8c A 1\n")?;
+    }
+    all.extend_from_slice(&spelled(rt, behind)?)?;
+    Ok(all)
+}
+
+#[test]
+fn keeps_the_limits(rt: HostRuntime) -> Result<(), Fail> {
+    let all = read_script(rt.alloc(), &many_calls(&rt, b"\n# no call\n")?)?.into_processors();
+    for calls in &all {
+        assert_eq!(rt; calls.len(), 20_000);
+    }
+    let table: [(&[u8], ScriptFault); 3] = [
+        (
+            b"0 get G A 1",
+            ScriptFault::TooManyCalls {
+                processor: 0,
+                limit: 20_000,
+            },
+        ),
+        (
+            b"0 set G - 6 -\n8",
+            ScriptFault::TooManyCalls {
+                processor: 0,
+                limit: 20_000,
+            },
+        ),
+        (
+            b"8",
+            ScriptFault::Line {
+                number: 20_001,
+                reason: LineReason::Processor,
+            },
+        ),
+    ];
+    for (behind, fault) in table {
+        assert_eq!(rt;
+            read_script(rt.alloc(), &many_calls(&rt, behind)?).err(),
+            Some(fault)
+        );
+    }
+    let mut long = vec![in rt.alloc(); b'#'; 1_048_576]?;
+    assert_eq!(rt; read_script(rt.alloc(), &long)?.processors(), 1);
+    long.push(b'\n')?;
+    let fault = ScriptFault::TooLong { bytes: 1_048_576 };
+    assert_eq!(rt; read_script(rt.alloc(), &long).err(), Some(fault));
+    Ok(())
+}
+
+#[test]
+fn keeps_the_limit_of_a_name(rt: HostRuntime) -> Result<(), Fail> {
+    for (units, fault) in [
+        (1024, None),
+        (
+            1025,
+            Some(ScriptFault::Line {
+                number: 1,
+                reason: LineReason::Name,
+            }),
+        ),
+    ] {
+        let mut line = spelled(&rt, b"0 get G ")?;
+        for _ in 0..units {
+            line.extend_from_slice(b"%0041")?;
+        }
+        line.extend_from_slice(b" 1")?;
+        assert_eq!(rt; read_script(rt.alloc(), &line).err(), fault);
+    }
+    Ok(())
+}
+
+#[test]
+fn writes_a_set(rt: HostRuntime) -> Result<(), Fail> {
+    let table: [(&[u16], u32, &[u8], Verdict, &[u8]); 4] = [
+        (&[45], 6, &[], Verdict::Good, b"set G %002d 0x00000006 -"),
+        (&[], 7, &[1, 255], Verdict::Good, b"set G - 0x00000007 01ff"),
+        (
+            &[37, 0x41, 0x0a],
+            0xABCD,
+            &[],
+            Verdict::Bad,
+            b"set G %0025A%000a 0x0000abcd - bad",
+        ),
+        (
+            &[45, 45, 0xFFFF, 127],
+            u32::MAX,
+            &[0x7A; 2],
+            Verdict::Bad,
+            b"set G --%ffff%007f 0xffffffff 7a7a bad",
+        ),
+    ];
+    for (name, attributes, bytes, verdict, want) in table {
+        let call = Call::Set(SetCall {
+            guid: Guid::read_bytes(GUID)?,
+            name: Units::new(rt.alloc(), name)?,
+            attributes,
+            bytes: Bytes::copy(rt.alloc(), bytes)?,
+            verdict,
+        });
+        let mut out = Bytes::new(rt.alloc());
+        write_call(&call, &mut out)?;
+        assert_eq!(rt; out.as_slice(), spelled(&rt, want)?.as_slice());
+    }
+    Ok(())
+}

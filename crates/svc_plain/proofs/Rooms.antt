@@ -1,0 +1,141 @@
+-- How the totals go with the variables.
+use Rattle.std.proofs.Common.{◌≡◌, ℕ, ◌+◌, ◌-◌, ◌≤◌, ◌<◌, ◌^◌, List, length, refl, subst, sym, ap, ◌∙◌, arith}
+use Rattle.std.specs.BTreeMap.{is_at, insert_entry}
+use Rattle.std.specs.List.Sorted.{IsStrictlySortedBy}
+use Rattle.std.specs.Map.{keys_of, lookup, remove_entry}
+use Rattle.std.specs.Prelude.{Option, Some, None, IfSome, true}
+use Rattle.std.specs.declared.cmp.Ordering.{Ordering}
+use Rattle.std.specs.declared.cmp.Ordering.TheVariants.{Less, Equal, Greater}
+use Rattle.std.specs.Ordering.{is_eq}
+use Rattle.svc_plain.proofs.Sums.{weight_at, sum_by-remove_entry, sum_by-insert_entry}
+use Rattle.svc_plain.specs.Used.{IsCounted, used_of, used_with, used_without}
+use Rattle.svc_plain.specs.declared.used.Used.{Used}
+use Rattle.var_types.proofs.Keys.{key_cmp_total, same_key}
+use Rattle.var_types.specs.Attributes.{store_of}
+use Rattle.var_types.specs.Key.{key_cmp}
+use Rattle.var_types.specs.Room.{in_store, room_in, room_limit, room_of, room_used}
+use Rattle.var_types.specs.declared.key.Key.{Key}
+use Rattle.var_types.specs.declared.store.Store.{Store}
+use Rattle.var_types.specs.declared.store.Store.TheVariants.{NonVolatile, Volatile}
+use Rattle.var_types.specs.declared.variable.Variable.{Variable}
+
+-- what the test for equality says
+equal_from_test : (o : Ordering) → is_eq o ≡ true → o ≡ Equal
+equal_from_test Less h = cc
+equal_from_test Equal h = refl
+equal_from_test Greater h = cc
+
+-- a key that is found is the one looked for
+found_key : (key q : Key) → is_at (key_cmp key) q ≡ true → q ≡ key
+found_key key q h = sym (same_key key q (equal_from_test (key_cmp key q) h))
+
+-- a total that falls is that of one store
+less_used : (used : Used) (of store : Store) (n : ℕ)
+    → used_of (used_with used of (used_of used of - n)) store ≡ used_of used store - in_store store of n
+less_used used NonVolatile NonVolatile n = refl
+less_used used NonVolatile Volatile n = omega arith
+less_used used Volatile NonVolatile n = omega arith
+less_used used Volatile Volatile n = refl
+
+-- a total that rises is that of one store
+more_used : (used : Used) (of store : Store) (n : ℕ)
+    → used_of (used_with used of (used_of used of + n)) store ≡ used_of used store + in_store store of n
+more_used used NonVolatile NonVolatile n = refl
+more_used used NonVolatile Volatile n = omega arith
+more_used used Volatile NonVolatile n = omega arith
+more_used used Volatile Volatile n = refl
+
+-- a total that rises to its limit at most keeps all within their limits
+more_within : (used : Used) (of store : Store) (n : ℕ) → used_of used store ≤ room_limit store → used_of used of + n ≤ room_limit of
+    → used_of (used_with used of (used_of used of + n)) store ≤ room_limit store
+more_within used NonVolatile NonVolatile n within fits = fits
+more_within used NonVolatile Volatile n within fits = within
+more_within used Volatile NonVolatile n within fits = within
+more_within used Volatile Volatile n within fits = fits
+
+-- a value for a store is one for it
+in_store-same : (store : Store) (n : ℕ) → in_store store store n ≡ n
+in_store-same NonVolatile n = refl
+in_store-same Volatile n = refl
+
+-- the totals without what is found at a key, store by store
+without_used : (used : Used) (key : Key) (found : Option Variable) (store : Store)
+    → used_of (used_without used key found) store ≡ used_of used store - weight_at (room_in store) key found
+unfolding room_in
+without_used used key None store = omega arith
+without_used used key (Some v) store = less_used used (store_of v.attributes) store (room_of key v)
+
+-- the totals without what is found at a key are those of the other variables
+pub counted_without : (used : Used) (key : Key) (es : List (Key × Variable)) → IsCounted used es
+    → IsCounted (used_without used key (lookup (is_at (key_cmp key)) es)) (remove_entry (is_at (key_cmp key)) es)
+counted_without used key es c = record {
+  counted = λ store. omega (arith, without_used used key (lookup (is_at (key_cmp key)) es) store, c.counted store, sum_by-remove_entry (room_in store) (is_at (key_cmp key)) key (found_key key) es);
+  within = λ store. omega (arith, without_used used key (lookup (is_at (key_cmp key)) es) store, c.within store);
+}
+
+-- the totals with a variable that is put are those of all variables then, where its store has room for it
+pub counted_put : (rest : Used) (key : Key) (v : Variable) (es : List (Key × Variable)) → IsStrictlySortedBy key_cmp (keys_of es)
+    → IsCounted rest (remove_entry (is_at (key_cmp key)) es)
+    → used_of rest (store_of v.attributes) + room_of key v ≤ room_limit (store_of v.attributes)
+    → IsCounted (used_with rest (store_of v.attributes) (used_of rest (store_of v.attributes) + room_of key v)) (insert_entry key_cmp es key v)
+unfolding room_in
+counted_put rest key v es sorted c fits = record {
+  counted = λ store. omega (arith, more_used rest (store_of v.attributes) store (room_of key v), c.counted store, sum_by-insert_entry (room_in store) key_cmp_total same_key key v es sorted);
+  within = λ store. more_within rest (store_of v.attributes) store (room_of key v) (c.within store) fits;
+}
+
+-- what is found takes no more room than its store's total
+pub found_within : (used : Used) (key : Key) (es : List (Key × Variable)) (v : Variable) → IsCounted used es
+    → lookup (is_at (key_cmp key)) es ≡ Some v → room_of key v ≤ used_of used (store_of v.attributes)
+unfolding room_in
+found_within used key es v c found =
+    let store = store_of v.attributes in
+    let P : Option Variable → Type 0 = λ o. room_used store (remove_entry (is_at (key_cmp key)) es) + weight_at (room_in store) key o ≡ room_used store es in
+    let sums = subst P found (sum_by-remove_entry (room_in store) (is_at (key_cmp key)) key (found_key key) es) in
+    omega (arith, sums, c.counted store, in_store-same store (room_of key v))
+
+-- data is shorter than its record's room
+pub length-le-room_of : (key : Key) (v : Variable) → length v.bytes ≤ room_of key v
+length-le-room_of key v = omega arith
+
+-- no store is larger than 32 bits can count
+limit_small : (store : Store) → room_limit store < 2 ^ 32
+limit_small NonVolatile = omega arith
+limit_small Volatile = omega arith
+
+-- the data of what is found is short
+pub found_short : (used : Used) (key : Key) (es : List (Key × Variable)) (v : Variable) → IsCounted used es
+    → lookup (is_at (key_cmp key)) es ≡ Some v → length v.bytes < 2 ^ 32
+found_short used key es v c found =
+    omega (arith, found_within used key es v c found, length-le-room_of key v, c.within (store_of v.attributes), limit_small (store_of v.attributes))
+
+-- the data of what may be found is short
+short_found : (used : Used) (key : Key) (es : List (Key × Variable)) → IsCounted used es → (found : Option Variable)
+    → lookup (is_at (key_cmp key)) es ≡ found → IfSome found (λ v. length v.bytes < 2 ^ 32)
+short_found used key es c None e = tt
+short_found used key es c (Some v) e = found_short used key es v c e
+
+-- the data of each variable is short
+pub all_short : (used : Used) (es : List (Key × Variable)) → IsCounted used es → (key : Key)
+    → IfSome (lookup (is_at (key_cmp key)) es) (λ v. length v.bytes < 2 ^ 32)
+all_short used es c key = short_found used key es c (lookup (is_at (key_cmp key)) es) refl
+
+-- what may be found takes no more room than its store's total
+within_found : (used : Used) (key : Key) (es : List (Key × Variable)) → IsCounted used es → (found : Option Variable)
+    → lookup (is_at (key_cmp key)) es ≡ found → IfSome found (λ v. room_of key v ≤ used_of used (store_of v.attributes))
+within_found used key es c None e = tt
+within_found used key es c (Some v) e = found_within used key es v c e
+
+-- each variable takes no more room than its store's total
+pub all_within : (used : Used) (es : List (Key × Variable)) → IsCounted used es → (key : Key)
+    → IfSome (lookup (is_at (key_cmp key)) es) (λ v. room_of key v ≤ used_of used (store_of v.attributes))
+all_within used es c key = within_found used key es c (lookup (is_at (key_cmp key)) es) refl
+
+-- the totals without what was found are those of the other variables
+pub counted_rest : (used rest : Used) (key : Key) (found : Option Variable) (es variables : List (Key × Variable)) → IsCounted used es
+    → rest ≡ used_without used key found → found ≡ lookup (is_at (key_cmp key)) es → es ≡ variables
+    → IsCounted rest (remove_entry (is_at (key_cmp key)) variables)
+counted_rest used rest key found es variables c without is seen =
+    let r = without ∙ ap (used_without used key) is in
+    subst (λ (vs : List (Key × Variable)). IsCounted rest (remove_entry (is_at (key_cmp key)) vs)) seen
+    (subst (λ (u : Used). IsCounted u (remove_entry (is_at (key_cmp key)) es)) (sym r) (counted_without used key es c))

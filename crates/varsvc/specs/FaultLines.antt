@@ -1,0 +1,49 @@
+use Rattle.std.specs.Prelude.{ℕ, List, [], ◌∷◌, decimal}
+use Rattle.script_text.specs.declared.fault.ScriptFault.{ScriptFault}
+use Rattle.script_text.specs.declared.fault.ScriptFault.TheVariants as script
+use Rattle.script_text.specs.declared.reason.LineReason.{LineReason}
+use Rattle.script_text.specs.declared.reason.LineReason.TheVariants as reason
+use Rattle.varsvc.specs.declared.usage.UsageFault.{UsageFault}
+use Rattle.varsvc.specs.declared.usage.UsageFault.TheVariants as usage
+use Rattle.varsvc.specs.declared.word.Word.{Word}
+use Rattle.varsvc.specs.declared.word.Word.TheVariants as word
+use Rattle.varsvc.specs.Line.{line_text}
+use Rattle.varsvc.specs.Word.{word_text}
+
+-- the line for want of memory
+unfoldable pub memory_line : List ℕ
+memory_line = line_text (word_text word.No ∷ word_text word.Memory ∷ [])
+
+-- the line for a failed read of the input
+unfoldable pub input_line : List ℕ
+input_line = line_text (word_text word.Input ∷ word_text word.Fault ∷ [])
+
+-- the line for refused words (this project's own)
+unfoldable pub usage_line : UsageFault → List ℕ
+usage_line usage.NoVerb = line_text (word_text word.Usage ∷ word_text word.NoVerb ∷ [])
+usage_line usage.UnknownVerb = line_text (word_text word.Usage ∷ word_text word.UnknownVerb ∷ [])
+usage_line (usage.Dash at) = line_text (word_text word.Usage ∷ word_text word.Dash ∷ decimal at ∷ [])
+usage_line (usage.Missing want have) = line_text (word_text word.Usage ∷ word_text word.Missing ∷ decimal want ∷ decimal have ∷ [])
+usage_line (usage.Extra at) = line_text (word_text word.Usage ∷ word_text word.Extra ∷ decimal at ∷ [])
+usage_line usage.OutOfMemory = memory_line
+
+-- the word of a line's reason
+abbrev pub reason_word : LineReason → Word
+reason_word reason.Text = word.Text
+reason_word reason.Processor = word.Processor
+reason_word reason.Verb = word.Verb
+reason_word reason.Later = word.Later
+reason_word reason.Words = word.Words
+reason_word reason.Guid = word.Guid
+reason_word reason.Name = word.Name
+reason_word reason.Number = word.Number
+reason_word reason.Hex = word.Hex
+
+-- the line for a refused script (this project's own)
+unfoldable pub script_line : ScriptFault → List ℕ
+script_line (script.Line number reason) =
+    line_text (word_text word.Script ∷ word_text word.Line ∷ decimal number ∷ word_text (reason_word reason) ∷ [])
+script_line (script.TooLong bytes) = line_text (word_text word.Script ∷ word_text word.Bytes ∷ decimal bytes ∷ [])
+script_line (script.TooManyCalls processor limit) =
+    line_text (word_text word.Script ∷ word_text word.Calls ∷ decimal processor ∷ decimal limit ∷ [])
+script_line script.OutOfMemory = memory_line

@@ -1,0 +1,9 @@
+pub mod Order
+pub mod Word
+pub mod Line
+pub mod FaultLines
+pub mod Replies
+pub mod Report
+pub mod Input
+pub mod Outcome
+pub mod Plan

@@ -1,0 +1,54 @@
+use Rattle.std.specs.Prelude.{ℕ, List, [], ◌∷◌, decimal}
+use Rattle.script_text.specs.Texts.{spaced, attributes_text, bytes_text}
+use Rattle.var_types.specs.declared.name.NameFault.{NameFault}
+use Rattle.var_types.specs.declared.name.NameFault.TheVariants as name
+use Rattle.var_types.specs.declared.reason.SetReason.{SetReason}
+use Rattle.var_types.specs.declared.reason.SetReason.TheVariants as reason
+use Rattle.var_types.specs.declared.reply.GetReply.{GetReply}
+use Rattle.var_types.specs.declared.reply.GetReply.TheVariants as get
+use Rattle.var_types.specs.declared.reply.Reply.{Reply}
+use Rattle.var_types.specs.declared.reply.Reply.TheVariants as reply
+use Rattle.var_types.specs.declared.reply.SetReply.{SetReply}
+use Rattle.var_types.specs.declared.reply.SetReply.TheVariants as set
+use Rattle.varsvc.specs.declared.word.Word.TheVariants as word
+use Rattle.varsvc.specs.Word.{word_text}
+
+-- the reply of GetVariable: the status as UEFI names it, the attributes, and the bytes or how many are needed (UEFI 2.10, 8.2.1)
+unfoldable pub get_reply_text : GetReply → List ℕ
+get_reply_text get.NotFound = spaced (word_text word.NotFound ∷ [])
+get_reply_text (get.TooSmall attributes needed) =
+    spaced (word_text word.BufferTooSmall ∷ attributes_text attributes ∷ decimal needed ∷ [])
+get_reply_text (get.Ok attributes bytes) = spaced (word_text word.Success ∷ attributes_text attributes ∷ bytes_text bytes ∷ [])
+get_reply_text get.OutOfMemory = spaced (word_text word.NoMemory ∷ [])
+
+-- the refusal of an ill-formed name
+unfoldable pub name_fault_text : NameFault → List ℕ
+name_fault_text name.Empty = spaced (word_text word.InvalidParameter ∷ word_text word.Name ∷ word_text word.Empty ∷ [])
+name_fault_text (name.TooLong units) =
+    spaced (word_text word.InvalidParameter ∷ word_text word.Name ∷ word_text word.Long ∷ decimal units ∷ [])
+name_fault_text (name.InnerNul at) =
+    spaced (word_text word.InvalidParameter ∷ word_text word.Name ∷ word_text word.Nul ∷ decimal at ∷ [])
+
+-- the refusal of a set: the status as UEFI names it, and this project's reason with its numbers (UEFI 2.10, 8.2.3)
+unfoldable pub reason_text : SetReason → List ℕ
+reason_text (reason.Name fault) = name_fault_text fault
+reason_text (reason.Size have limit) =
+    spaced (word_text word.InvalidParameter ∷ word_text word.Size ∷ decimal have ∷ decimal limit ∷ [])
+reason_text reason.Missing = spaced (word_text word.NotFound ∷ word_text word.Missing ∷ [])
+reason_text (reason.AttributesDiffer stored asked) =
+    spaced (word_text word.InvalidParameter ∷ word_text word.Attributes ∷ attributes_text stored ∷ attributes_text asked ∷ [])
+reason_text (reason.Room need have) =
+    spaced (word_text word.OutOfResources ∷ word_text word.Room ∷ decimal need ∷ decimal have ∷ [])
+reason_text (reason.HistoryFull made) = spaced (word_text word.OutOfResources ∷ word_text word.History ∷ decimal made ∷ [])
+
+-- the reply of SetVariable (UEFI 2.10, 8.2.3)
+unfoldable pub set_reply_text : SetReply → List ℕ
+set_reply_text set.Ok = spaced (word_text word.Success ∷ [])
+set_reply_text set.Same = spaced (word_text word.Success ∷ word_text word.Same ∷ [])
+set_reply_text (set.Refused reason) = reason_text reason
+set_reply_text set.OutOfMemory = spaced (word_text word.NoMemory ∷ [])
+
+-- the text of a reply
+unfoldable pub reply_text : Reply → List ℕ
+reply_text (reply.Get r) = get_reply_text r
+reply_text (reply.Set r) = set_reply_text r

@@ -1,0 +1,49 @@
+use Rattle.std.specs.Prelude.{ℕ, ◌+◌, List, [], ◌∷◌, ◌++◌, length, decimal, flat_map, if◌then◌else◌}
+use Rattle.script_text.specs.Texts.{call_text}
+use Rattle.var_types.specs.declared.answered.Answered.{Answered}
+use Rattle.var_types.specs.declared.answered.Route.{Route}
+use Rattle.var_types.specs.declared.answered.Route.TheVariants.{Plain}
+use Rattle.var_types.specs.History.{Entry}
+use Rattle.var_types.specs.Session.{history_of, entry_of}
+use Rattle.var_types.specs.Step.{is_change}
+use Rattle.varsvc.specs.declared.word.Word.{Word}
+use Rattle.varsvc.specs.declared.word.Word.TheVariants as word
+use Rattle.varsvc.specs.Line.{line_text}
+use Rattle.varsvc.specs.Replies.{reply_text}
+use Rattle.varsvc.specs.Word.{word_text}
+
+-- the line of a change: its number, the processor and the index of its call, and the call (this project's own)
+unfoldable pub entry_line : Entry → List ℕ
+entry_line entry = line_text (decimal entry.number ∷ decimal entry.processor ∷ decimal entry.index ∷ call_text entry.call ∷ [])
+
+-- the line of the change that an answered call makes, if it makes one
+abbrev pub change_lines : ℕ → Answered → List ℕ
+change_lines index a = if is_change a.reply then entry_line (entry_of index a) else []
+
+-- the lines of a history: how many changes, and each of them (this project's own)
+unfoldable pub history_lines : List Entry → List ℕ
+history_lines history =
+    line_text (word_text word.History ∷ decimal (length history) ∷ []) ++ flat_map entry_line history
+
+-- the word of a route
+abbrev pub route_word : Route → Word
+route_word Plain = word.Plain
+
+-- the line of an answered call: its index, its place, its route and the reply (this project's own)
+unfoldable pub answer_line : ℕ → Answered → List ℕ
+answer_line index a = line_text (decimal index ∷ decimal a.place ∷ word_text (route_word a.route) ∷ reply_text a.reply ∷ [])
+
+-- a text for each answered call with its index, the first of which has this one
+abbrev pub indexed : (ℕ → Answered → List ℕ) → ℕ → List Answered → List ℕ
+indexed text index [] = []
+indexed text index (a ∷ rest) = text index a ++ indexed text (index + 1) rest
+
+-- the lines of processor 0: how many calls, and each reply (this project's own)
+unfoldable pub processor_lines : List Answered → List ℕ
+processor_lines answered =
+    line_text (word_text word.Processor ∷ decimal 0 ∷ word_text word.Calls ∷ decimal (length answered) ∷ []) ++ indexed answer_line 0 answered
+
+-- the report of a session: its history, the replies, and the end (this project's own)
+unfoldable pub session_text : List Answered → List ℕ
+session_text answered =
+    history_lines (history_of answered) ++ (processor_lines answered ++ line_text (word_text word.End ∷ []))

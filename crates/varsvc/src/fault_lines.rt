@@ -1,0 +1,89 @@
+ghost use Rattle.std.specs.Prelude.{◌≡◌, ◌++◌, OnOk};
+ghost use Rattle.varsvc.specs.FaultLines.{usage_line, script_line, input_line, memory_line, reason_word};
+
+use crate::part::{Part, write_line};
+use crate::usage::UsageFault;
+use crate::word::Word;
+use script_text::{LineReason, ScriptFault};
+use var_types::{Bytes, OutOfMemory};
+
+/// Appends the line for want of memory.
+#[tactic(auto, unfolding(crate::specs::FaultLines::memory_line))]
+pub fn write_memory_line(out: &mut Bytes) -> Result<(), OutOfMemory>
+    ensures { OnOk result (out.new ≡ out.old ++ memory_line) }
+{
+    write_line(&[Part::Word(Word::No), Part::Word(Word::Memory)], out)
+}
+
+/// Appends the line for a failed read of the input.
+#[tactic(auto, unfolding(crate::specs::FaultLines::input_line))]
+pub fn write_input_line(out: &mut Bytes) -> Result<(), OutOfMemory>
+    ensures { OnOk result (out.new ≡ out.old ++ input_line) }
+{
+    write_line(&[Part::Word(Word::Input), Part::Word(Word::Fault)], out)
+}
+
+/// Appends the line for refused words.
+#[tactic(auto, unfolding(crate::specs::FaultLines::usage_line))]
+pub fn write_usage_line(fault: UsageFault, out: &mut Bytes) -> Result<(), OutOfMemory>
+    ensures { OnOk result (out.new ≡ out.old ++ usage_line fault) }
+{
+    let usage = Part::Word(Word::Usage);
+    match fault {
+        UsageFault::NoVerb => write_line(&[usage, Part::Word(Word::NoVerb)], out),
+        UsageFault::UnknownVerb => write_line(&[usage, Part::Word(Word::UnknownVerb)], out),
+        UsageFault::Dash { at } => {
+            write_line(&[usage, Part::Word(Word::Dash), Part::Number(at)], out)
+        }
+        UsageFault::Missing { want, have } => {
+            let want = Part::Number(u64::from(want));
+            let have = Part::Number(u64::from(have));
+            write_line(&[usage, Part::Word(Word::Missing), want, have], out)
+        }
+        UsageFault::Extra { at } => {
+            write_line(&[usage, Part::Word(Word::Extra), Part::Number(at)], out)
+        }
+        UsageFault::OutOfMemory => write_memory_line(out),
+    }
+}
+
+fn reason_word(reason: LineReason) -> Word
+    ensures { result ≡ reason_word reason }
+{
+    match reason {
+        LineReason::Text => Word::Text,
+        LineReason::Processor => Word::Processor,
+        LineReason::Verb => Word::Verb,
+        LineReason::Later => Word::Later,
+        LineReason::Words => Word::Words,
+        LineReason::Guid => Word::Guid,
+        LineReason::Name => Word::Name,
+        LineReason::Number => Word::Number,
+        LineReason::Hex => Word::Hex,
+    }
+}
+
+/// Appends the line for a refused script.
+#[tactic(auto, unfolding(crate::specs::FaultLines::script_line))]
+pub fn write_script_line(fault: ScriptFault, out: &mut Bytes) -> Result<(), OutOfMemory>
+    ensures { OnOk result (out.new ≡ out.old ++ script_line fault) }
+{
+    let script = Part::Word(Word::Script);
+    match fault {
+        ScriptFault::Line { number, reason } => {
+            let number = Part::Number(u64::from(number));
+            let reason = Part::Word(reason_word(reason));
+            write_line(&[script, Part::Word(Word::Line), number, reason], out)
+        }
+        ScriptFault::TooLong { bytes } => {
+            let bytes = Part::Number(u64::from(bytes));
+            write_line(&[script, Part::Word(Word::Bytes), bytes], out)
+        }
+        ScriptFault::TooManyCalls { processor, limit } => {
+            let processor = Part::Number(u64::from(processor));
+            let limit = Part::Number(u64::from(limit));
+            write_line(&[script, Part::Word(Word::Calls), processor, limit], out)
+        }
+        ScriptFault::OutOfMemory => write_memory_line(out),
+    }
+}

@@ -1,0 +1,49 @@
+//! The variable services of UEFI on one processor: reads a script of calls, runs it, and prints the replies.
+#![tactic(auto)]
+
+mod fault_lines;
+mod image_name;
+mod input;
+mod order;
+mod part;
+mod plan;
+mod replies;
+mod report;
+mod session;
+#[cfg(test)]
+mod tests;
+mod top;
+mod usage;
+mod word;
+mod words;
+
+pub use image_name::ImageName;
+pub use order::Order;
+use outside::{StdSink, StdSource};
+use plan::Plan;
+use std::env::Env;
+use std::process::ExitCode;
+use std::{env, io};
+pub use top::{Done, varsvc};
+pub use usage::UsageFault;
+pub use words::read_words;
+
+// The words behind the program's name. A word that isn't UTF-8 is no word, and then none are handed on.
+fn words_of(rt: &(impl Env + AllocGlobal)) -> io::Result<Vec<String>> {
+    let alloc = rt.alloc();
+    match env::args(rt) {
+        Ok(words) => Ok(words.skip(1).collect(alloc)?),
+        Err(error) if error.kind() == io::ErrorKind::InvalidData => Ok(Vec::new(alloc)),
+        Err(error) => Err(error),
+    }
+}
+
+fn main(rt: HostRuntime) -> ExitCode {
+    let mut script = StdSource::on(rt.stdin());
+    let mut out = StdSink::on(rt.stdout());
+    let status = match words_of(&rt) {
+        Ok(words) => varsvc(rt.alloc(), &words, &mut script, (), &mut out).status,
+        Err(_) => top::print_plan(&Plan::NoMemory, &mut out),
+    };
+    ExitCode::from(status)
+}

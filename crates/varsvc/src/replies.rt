@@ -1,0 +1,110 @@
+ghost use Rattle.std.specs.Prelude.{◌≡◌, ◌++◌, OnOk};
+ghost use Rattle.varsvc.specs.Replies.{get_reply_text, name_fault_text, reason_text, set_reply_text, reply_text};
+
+use crate::part::{Part, write_parts};
+use crate::word::Word;
+use var_types::{Bytes, GetReply, NameFault, OutOfMemory, Reply, SetReason, SetReply};
+
+#[tactic(auto, unfolding(crate::specs::Replies::get_reply_text))]
+fn write_get_reply(reply: &GetReply, out: &mut Bytes) -> Result<(), OutOfMemory>
+    ensures { OnOk result (out.new ≡ out.old ++ get_reply_text reply.now) }
+{
+    match reply {
+        GetReply::NotFound => write_parts(&[Part::Word(Word::NotFound)], out),
+        GetReply::TooSmall { attributes, needed } => {
+            let attributes = Part::Attributes(*attributes);
+            let needed = Part::Number(u64::from(*needed));
+            write_parts(&[Part::Word(Word::BufferTooSmall), attributes, needed], out)
+        }
+        GetReply::Ok { attributes, bytes } => {
+            let attributes = Part::Attributes(*attributes);
+            let bytes = Part::Bytes(bytes.as_slice());
+            write_parts(&[Part::Word(Word::Success), attributes, bytes], out)
+        }
+        GetReply::OutOfMemory => write_parts(&[Part::Word(Word::NoMemory)], out),
+    }
+}
+
+#[tactic(auto, unfolding(crate::specs::Replies::name_fault_text))]
+fn write_name_fault(fault: NameFault, out: &mut Bytes) -> Result<(), OutOfMemory>
+    ensures { OnOk result (out.new ≡ out.old ++ name_fault_text fault) }
+{
+    let invalid = Part::Word(Word::InvalidParameter);
+    let name = Part::Word(Word::Name);
+    match fault {
+        NameFault::Empty => write_parts(&[invalid, name, Part::Word(Word::Empty)], out),
+        NameFault::TooLong { units } => {
+            write_parts(
+                &[invalid, name, Part::Word(Word::Long), Part::Number(units)],
+                out,
+            )
+        }
+        NameFault::InnerNul { at } => {
+            let at = Part::Number(u64::from(at));
+            write_parts(&[invalid, name, Part::Word(Word::Nul), at], out)
+        }
+    }
+}
+
+#[tactic(auto, unfolding(crate::specs::Replies::reason_text))]
+fn write_reason(reason: SetReason, out: &mut Bytes) -> Result<(), OutOfMemory>
+    ensures { OnOk result (out.new ≡ out.old ++ reason_text reason) }
+{
+    let invalid = Part::Word(Word::InvalidParameter);
+    let lacking = Part::Word(Word::OutOfResources);
+    match reason {
+        SetReason::Name(fault) => write_name_fault(fault, out),
+        SetReason::Size { have, limit } => {
+            let limit = Part::Number(u64::from(limit));
+            write_parts(
+                &[invalid, Part::Word(Word::Size), Part::Number(have), limit],
+                out,
+            )
+        }
+        SetReason::Missing => {
+            write_parts(
+                &[Part::Word(Word::NotFound), Part::Word(Word::Missing)],
+                out,
+            )
+        }
+        SetReason::AttributesDiffer { stored, asked } => {
+            let stored = Part::Attributes(stored);
+            let asked = Part::Attributes(asked);
+            write_parts(&[invalid, Part::Word(Word::Attributes), stored, asked], out)
+        }
+        SetReason::Room { need, have } => {
+            let need = Part::Number(u64::from(need));
+            let have = Part::Number(u64::from(have));
+            write_parts(&[lacking, Part::Word(Word::Room), need, have], out)
+        }
+        SetReason::HistoryFull { made } => {
+            write_parts(
+                &[lacking, Part::Word(Word::History), Part::Number(made)],
+                out,
+            )
+        }
+    }
+}
+
+#[tactic(auto, unfolding(crate::specs::Replies::set_reply_text))]
+fn write_set_reply(reply: &SetReply, out: &mut Bytes) -> Result<(), OutOfMemory>
+    ensures { OnOk result (out.new ≡ out.old ++ set_reply_text reply.now) }
+{
+    match reply {
+        SetReply::Ok => write_parts(&[Part::Word(Word::Success)], out),
+        SetReply::Same => write_parts(&[Part::Word(Word::Success), Part::Word(Word::Same)], out),
+        SetReply::Refused(reason) => write_reason(*reason, out),
+        SetReply::OutOfMemory => write_parts(&[Part::Word(Word::NoMemory)], out),
+    }
+}
+
+/// Appends the text of a reply.
+#[tactic(auto, unfolding(crate::specs::Replies::reply_text))]
+pub fn write_reply(reply: &Reply, out: &mut Bytes) -> Result<(), OutOfMemory>
+    ensures { OnOk result (out.new ≡ out.old ++ reply_text reply.now) }
+{
+    match reply {
+        Reply::Get(reply) => write_get_reply(reply, out),
+        Reply::Set(reply) => write_set_reply(reply, out),
+    }
+}

@@ -1,0 +1,140 @@
+use crate::varsvc;
+use outside::{MemSink, MemSource};
+use std::alloc::{AllocError, Global};
+use std::test::Fail;
+
+const ROOM: usize = 4096;
+
+/// A call of the program with a source and a sink in memory, whose calls of these numbers fail.
+#[derive(Drop)]
+struct Case<'a> {
+    words: &'a [&'a str],
+    script: &'a [u8],
+    source_fails: &'a [u32],
+    sink_fails: &'a [u32],
+}
+
+fn words_of(alloc: Global, words: &[&str]) -> Result<Vec<String>, AllocError> {
+    let mut all = Vec::new(alloc);
+    for word in words {
+        all.push(String::from_str(alloc, word)?)?;
+    }
+    Ok(all)
+}
+
+fn run(alloc: Global, case: &Case, room: usize) -> Result<(u8, Vec<u8>), AllocError> {
+    let words = words_of(alloc, case.words)?;
+    let mut source = MemSource::new(case.script.to_vec(alloc)?, case.source_fails.to_vec(alloc)?);
+    let mut sink = MemSink::new(vec![in alloc; 0u8; room]?, case.sink_fails.to_vec(alloc)?);
+    let done = varsvc(alloc, &words, &mut source, 7u8, &mut sink);
+    Ok((done.status, sink.bytes().to_vec(alloc)?))
+}
+
+#[test]
+fn words_are_refused(rt: HostRuntime) -> Result<(), Fail> {
+    let cases: [(&[&str], &str); 8] = [
+        (&[], "usage no-verb\n"),
+        (&["frob"], "usage unknown-verb\n"),
+        (&["Run", "vars.fd"], "usage unknown-verb\n"),
+        (&["run"], "usage missing 1 0\n"),
+        (&["run", "-x"], "usage dash 1\n"),
+        (&["run", "vars.fd", "-x"], "usage dash 2\n"),
+        (&["run", "vars.fd", "more"], "usage extra 2\n"),
+        (&["run", "vars.fd", "more", "-"], "usage dash 3\n"),
+    ];
+    for (words, line) in cases {
+        let call = Case {
+            words,
+            script: b"",
+            source_fails: &[],
+            sink_fails: &[],
+        };
+        let (status, text) = run(rt.alloc(), &call, ROOM)?;
+        assert_eq!(rt; status, 2, "{line}");
+        assert_eq!(rt; text.as_slice(), line.as_bytes(), "{line}");
+    }
+    Ok(())
+}
+
+#[test]
+fn scripts_are_run(rt: HostRuntime) -> Result<(), Fail> {
+    let cases: [(&[u8], u8, &[u8]); 8] = [
+        (b"", 0, b"history 0\nprocessor 0 calls 0\nend\n"),
+        (
+            b"0 set 8be4df61-93ca-11d2-aa0d-00e098032b8c BootCurrent 6 0100\n0 get 8be4df61-93ca-11d2-aa0d-00e098032b8c BootCurrent 16\n",
+            0,
+            b"history 1\n0 0 0 set 8be4df61-93ca-11d2-aa0d-00e098032b8c BootCurrent 0x00000006 0100\nprocessor 0 calls 2\n0 0 - SUCCESS\n1 1 - SUCCESS 0x00000006 0100\nend\n",
+        ),
+        (
+            b"# too little room, the same again, another, and gone\n0 set 8be4df61-93ca-11d2-aa0d-00e098032b8c A 6 0102\n0 get 8be4df61-93ca-11d2-aa0d-00e098032b8c A 1\n0 set 8be4df61-93ca-11d2-aa0d-00e098032b8c A 6 0102\n0 set 8be4df61-93ca-11d2-aa0d-00e098032b8c A 6 03\n0 set 8be4df61-93ca-11d2-aa0d-00e098032b8c A 6 -\n0 get 8be4df61-93ca-11d2-aa0d-00e098032b8c A 9\n0 set 8be4df61-93ca-11d2-aa0d-00e098032b8c A 6 -\n",
+            0,
+            b"history 3\n0 0 0 set 8be4df61-93ca-11d2-aa0d-00e098032b8c A 0x00000006 0102\n1 0 3 set 8be4df61-93ca-11d2-aa0d-00e098032b8c A 0x00000006 03\n2 0 4 set 8be4df61-93ca-11d2-aa0d-00e098032b8c A 0x00000006 -\nprocessor 0 calls 7\n0 0 - SUCCESS\n1 1 - BUFFER_TOO_SMALL 0x00000006 2\n2 1 - SUCCESS same\n3 1 - SUCCESS\n4 2 - SUCCESS\n5 3 - NOT_FOUND\n6 3 - NOT_FOUND missing\nend\n",
+        ),
+        (
+            b"0 set 8be4df61-93ca-11d2-aa0d-00e098032b8c - 6 01\n0 set 8be4df61-93ca-11d2-aa0d-00e098032b8c A%0000B 6 01\n",
+            0,
+            b"history 0\nprocessor 0 calls 2\n0 0 - INVALID_PARAMETER name empty\n1 0 - INVALID_PARAMETER name nul 1\nend\n",
+        ),
+        (b"# no call\n\n0 fly\n", 3, b"script line 3 verb\n"),
+        (b"0 lock", 3, b"script line 1 later\n"),
+        (
+            b"1 get 8be4df61-93ca-11d2-aa0d-00e098032b8c A 9\n",
+            3,
+            b"script line 1 later\n",
+        ),
+        (
+            b"0 set 8be4df61-93ca-11d2-aa0d-00e098032b8c A 7 01\n",
+            3,
+            b"script line 1 later\n",
+        ),
+    ];
+    for (script, status, text) in cases {
+        let call = Case {
+            words: &["run", "vars.fd"],
+            script,
+            source_fails: &[],
+            sink_fails: &[],
+        };
+        let done = run(rt.alloc(), &call, ROOM)?;
+        assert_eq!(rt; done.0, status);
+        assert_eq!(rt; done.1.as_slice(), text);
+    }
+    Ok(())
+}
+
+#[test]
+fn failures_decide_the_status(rt: HostRuntime) -> Result<(), Fail> {
+    let cases: [(&[u32], &[u32], usize, u8, &[u8]); 6] = [
+        // The first read, and the read that would find the end.
+        (&[0], &[], ROOM, 6, b"input fault\n"),
+        (&[1], &[], ROOM, 6, b"input fault\n"),
+        (&[2], &[], ROOM, 0, b"history 0\nprocessor 0 calls 0\nend\n"),
+        (&[], &[0], ROOM, 5, b""),
+        (&[], &[], 10, 5, b""),
+        // A failed write decides the status, whatever else failed.
+        (&[0], &[0], ROOM, 5, b""),
+    ];
+    for (source_fails, sink_fails, room, status, text) in cases {
+        let call = Case {
+            words: &["run", "vars.fd"],
+            script: b"# no call\n",
+            source_fails,
+            sink_fails,
+        };
+        let done = run(rt.alloc(), &call, room)?;
+        assert_eq!(rt; done.0, status);
+        assert_eq!(rt; done.1.as_slice(), text);
+    }
+    Ok(())
+}
+
+#[test]
+fn the_image_is_handed_back(rt: HostRuntime) -> Result<(), Fail> {
+    let alloc = rt.alloc();
+    let words = words_of(alloc, &["run", "vars.fd"])?;
+    let mut source = MemSource::new(Vec::new(alloc), Vec::new(alloc));
+    let mut sink = MemSink::new(vec![in alloc; 0u8; ROOM]?, Vec::new(alloc));
+    let done = varsvc(alloc, &words, &mut source, 7u8, &mut sink);
+    assert_eq!(rt; done.image, Some(7));
+    Ok(())
+}

@@ -15,6 +15,8 @@ mod reason;
 mod reply;
 mod stamp;
 mod store;
+#[cfg(test)]
+mod tests;
 mod units;
 mod variable;
 mod verdict;

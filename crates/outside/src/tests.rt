@@ -1,7 +1,9 @@
 use crate::{Failed, MemSink, MemSource, Sink, Source, StdSink, StdSource};
-use std::io;
+use std::fs::File;
 use std::io::{Read, Write};
+use std::path::PathBuf;
 use std::test::Fail;
+use std::{env, fs, io, process};
 
 // Gives its text up to `cut`, then fails once, and then gives the rest.
 #[derive(Drop)]
@@ -49,6 +51,44 @@ impl Write for TakesFew {
 
     fn flush(&mut self) -> io::Result<()> {
         Ok(())
+    }
+}
+
+// A file of the system, whose call of this number fails before it reaches the file.
+#[derive(Drop)]
+struct FailingFile {
+    file: File,
+    fails: usize,
+    calls: usize,
+}
+
+impl FailingFile {
+    fn is_failing(&mut self) -> bool {
+        let call = self.calls;
+        self.calls = call.saturating_add(1);
+        call == self.fails
+    }
+}
+
+impl Read for FailingFile {
+    fn read(&mut self, into: &mut [u8]) -> io::Result<usize> {
+        if self.is_failing() {
+            return Err(io::ErrorKind::BrokenPipe.into());
+        }
+        self.file.read(into)
+    }
+}
+
+impl Write for FailingFile {
+    fn write(&mut self, bytes: &[u8]) -> io::Result<usize> {
+        if self.is_failing() {
+            return Err(io::ErrorKind::BrokenPipe.into());
+        }
+        self.file.write(bytes)
+    }
+
+    fn flush(&mut self) -> io::Result<()> {
+        self.file.flush()
     }
 }
 
@@ -140,6 +180,52 @@ fn a_writer_is_called_until_it_has_taken_all(rt: HostRuntime) -> Result<(), Fail
         drop(sink);
         assert_eq!(rt; writer.held.as_slice(), held);
     }
+    Ok(())
+}
+
+// A file of this process alone, in the system's folder for such files.
+fn scratch_path(rt: &HostRuntime, name: &str) -> io::Result<PathBuf> {
+    let id = process::id(rt.process());
+    let file = format!(in rt.alloc(); "varsvc-{name}-{id}")?;
+    Ok(env::temp_dir(rt)?.join(rt.alloc(), file.as_str())?)
+}
+
+#[test]
+fn a_file_is_read_on_after_a_failure(rt: HostRuntime) -> Result<(), Fail> {
+    let path = scratch_path(&rt, "source")?;
+    fs::write(&rt, path.as_path(), "abcdef")?;
+    let file = fs::open(&rt, path.as_path())?;
+    let mut source = StdSource::on(FailingFile {
+        file,
+        fails: 1,
+        calls: 0,
+    });
+    let answers: [Option<&[u8]>; 4] = [Some(b"abcd"), None, Some(b"ef"), Some(b"")];
+    for want in answers {
+        let mut piece = [0u8; 4];
+        assert_eq!(rt; next_of(&mut source, &mut piece), want);
+    }
+    fs::remove_file(&rt, path.as_path())?;
+    Ok(())
+}
+
+#[test]
+fn a_file_holds_what_was_taken(rt: HostRuntime) -> Result<(), Fail> {
+    let path = scratch_path(&rt, "sink")?;
+    let file = fs::create(&rt, path.as_path())?;
+    let mut sink = StdSink::on(FailingFile {
+        file,
+        fails: 1,
+        calls: 0,
+    });
+    let writes: [(&[u8], bool); 3] = [(b"abc", true), (b"de", false), (b"fg", true)];
+    for (bytes, is_taken) in writes {
+        assert_eq!(rt; takes(&mut sink, bytes), is_taken);
+    }
+    drop(sink);
+    let held = fs::read(&rt, path.as_path())?;
+    fs::remove_file(&rt, path.as_path())?;
+    assert_eq!(rt; held.as_slice(), b"abcfg".as_slice());
     Ok(())
 }
 

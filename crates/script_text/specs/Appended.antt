@@ -1,5 +1,4 @@
 use Rattle.std.specs.Prelude.{◌≡◌, ℕ, List, [], ◌++◌, codes, decimal}
-use Rattle.var_types.specs.declared.call.GetCall.{GetCall}
 use Rattle.var_types.specs.declared.call.SetCall.{SetCall}
 use Rattle.var_types.specs.declared.guid.Guid.{Guid}
 use Rattle.var_types.specs.declared.verdict.Verdict.{Verdict}
@@ -15,9 +14,9 @@ Extends old new = (more : List ℕ) × (new ≡ old ++ more)
 abbrev pub named_text : List ℕ → Guid → List ℕ → List ℕ
 named_text verb guid name = verb ++ (guid_text guid ++ (codes " " ++ name_text name))
 
--- the text of a get, piece by piece
-abbrev pub get_text : GetCall → List ℕ
-get_text call = named_text (codes "get ") call.guid call.name ++ (codes " " ++ decimal call.room)
+-- the text of a verb, a GUID, a name and a room, piece by piece
+abbrev pub roomed_text : List ℕ → Guid → List ℕ → ℕ → List ℕ
+roomed_text verb guid name room = named_text verb guid name ++ (codes " " ++ decimal room)
 
 -- the text of a verdict behind a set: none where it is good
 abbrev pub verdict_text : Verdict → List ℕ

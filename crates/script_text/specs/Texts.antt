@@ -45,6 +45,7 @@ verdict_words Bad = codes "bad" ∷ []
 -- the words of a call
 abbrev pub call_words_of : Call → List (List ℕ)
 call_words_of (call.Get c) = codes "get" ∷ guid_text c.guid ∷ name_text c.name ∷ decimal c.room ∷ []
+call_words_of (call.Next c) = codes "next" ∷ guid_text c.guid ∷ name_text c.name ∷ decimal c.room ∷ []
 call_words_of (call.Set c) =
     codes "set" ∷ guid_text c.guid ∷ name_text c.name ∷ attributes_text c.attributes ∷ bytes_text c.bytes ∷ verdict_words c.verdict
 

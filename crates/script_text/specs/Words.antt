@@ -27,13 +27,14 @@ is_word text word = pointwise ◌==◌ word text
 -- whether a word is a verb of the format whose lines are not read yet
 abbrev pub is_later_verb : List ℕ → Bool
 is_later_verb word =
-    is_word (codes "next") word || is_word (codes "register") word || is_word (codes "lock") word || is_word (codes "disable") word
+    is_word (codes "register") word || is_word (codes "lock") word || is_word (codes "disable") word
     || is_word (codes "enabled") word || is_word (codes "policy") word || is_word (codes "exitboot") word
 
 -- the verb of a word (this project's own)
 unfoldable pub verb_of : List ℕ → Result Verb LineReason
 verb_of word =
     if is_word (codes "get") word then Ok verb.Get
+    else if is_word (codes "next") word then Ok verb.Next
     else if is_word (codes "set") word then Ok verb.Set
     else if is_later_verb word then Ok verb.Later
     else Err reason.Verb
@@ -54,9 +55,17 @@ get_call guid name room = do
   room ← number_of room
   Ok (call.Get (record { guid = guid; name = name; room = room }))
 
--- the attributes that a set may have so far: those of a volatile variable with both access bits
+-- a next by its GUID, its name and its room
+unfoldable pub next_call : List ℕ → List ℕ → List ℕ → Result Call LineReason
+next_call guid name room = do
+  guid ← guid_word guid
+  name ← name_of name
+  room ← number_of room
+  Ok (call.Next (record { guid = guid; name = name; room = room }))
+
+-- the attributes that a set may have so far: none, which deletes, and those of a volatile variable
 abbrev pub is_set_so_far : ℕ → Bool
-is_set_so_far attributes = attributes == 6
+is_set_so_far attributes = (attributes == 0) || (attributes == 2) || (attributes == 6)
 
 -- a set of checked parts; one with a verdict, or with other attributes, is not read yet
 abbrev pub set_so_far : Bool → Guid → List ℕ → ℕ → List ℕ → Result Call LineReason
@@ -79,6 +88,11 @@ unfoldable pub get_words : List (List ℕ) → Result Call LineReason
 get_words (guid ∷ name ∷ room ∷ []) = get_call guid name room
 get_words _ = Err reason.Words
 
+-- the words behind `next`
+unfoldable pub next_words : List (List ℕ) → Result Call LineReason
+next_words (guid ∷ name ∷ room ∷ []) = next_call guid name room
+next_words _ = Err reason.Words
+
 -- the words behind `set`
 unfoldable pub set_words : List (List ℕ) → Result Call LineReason
 set_words (guid ∷ name ∷ attributes ∷ bytes ∷ []) = set_call false guid name attributes bytes
@@ -88,6 +102,7 @@ set_words _ = Err reason.Words
 -- the words behind a verb; so far, processor 0 alone makes calls
 unfoldable pub verb_words : ℕ → Verb → List (List ℕ) → Result Call LineReason
 verb_words processor verb.Get rest = if processor == 0 then get_words rest else Err reason.Later
+verb_words processor verb.Next rest = if processor == 0 then next_words rest else Err reason.Later
 verb_words processor verb.Set rest = if processor == 0 then set_words rest else Err reason.Later
 verb_words processor verb.Later rest = Err reason.Later
 

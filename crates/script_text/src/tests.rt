@@ -2,7 +2,7 @@
 
 use super::*;
 use std::test::Fail;
-use var_types::{Bytes, Call, Guid, SetCall, Units, Verdict};
+use var_types::{Bytes, Call, Guid, NextCall, SetCall, Units, Verdict};
 
 const GUID: &[u8] = b"8be4df61-93ca-11d2-aa0d-00e098032b8c";
 
@@ -33,7 +33,7 @@ fn texts_of(rt: &HostRuntime, script: Script) -> Result<Vec<u8>, Fail> {
 
 #[test]
 fn reads(rt: HostRuntime) -> Result<(), Fail> {
-    let table: [(&[u8], &[u8]); 15] = [
+    let table: [(&[u8], &[u8]); 18] = [
         (b"", b""),
         (b"\n \n\t\n\r\n", b""),
         (b"0 get G A 16", b"get G A 16\n"),
@@ -45,6 +45,9 @@ fn reads(rt: HostRuntime) -> Result<(), Fail> {
         (b"0 get G A 0000000000000000000012", b"get G A 12\n"),
         (b"0 get G A 4294967295", b"get G A 4294967295\n"),
         (b"0 get G A 0x00fffFFFFF", b"get G A 4294967295\n"),
+        (b"0 next G - 64", b"next G - 64\n"),
+        (b"0 set G A 0 -", b"set G A 0x00000000 -\n"),
+        (b"0 set G A 2 01", b"set G A 0x00000002 01\n"),
         (b"0 set G A 6 -", b"set G A 0x00000006 -\n"),
         (b"0 set G A 0x6 01fF", b"set G A 0x00000006 01ff\n"),
         (b"0 set G %002D 6 00", b"set G %002d 0x00000006 00\n"),
@@ -104,15 +107,16 @@ fn refuses_a_line(rt: HostRuntime) -> Result<(), Fail> {
             LineReason::Later,
             &[
                 b"1 get G A 9",
+                b"1 next G A 9",
                 b"7 set x",
-                b"0 next G - 64",
                 b"0 register",
                 b"0 lock",
                 b"0 disable",
                 b"0 enabled",
                 b"0 policy",
                 b"0 exitboot",
-                b"0 set G A 7 01",
+                b"0 set G A 3 01",
+                b"0 set G A 0x7 01",
                 b"0 set G A 6 01 good",
             ],
         ),
@@ -122,6 +126,7 @@ fn refuses_a_line(rt: HostRuntime) -> Result<(), Fail> {
                 b"0 get",
                 b"0 get G A",
                 b"0 get x A 1 2",
+                b"0 next G A",
                 b"0 set G A 6",
                 b"0 set G A 6 01 good x",
             ],
@@ -255,6 +260,20 @@ fn keeps_the_limit_of_a_name(rt: HostRuntime) -> Result<(), Fail> {
         line.extend_from_slice(b" 1")?;
         assert_eq!(rt; read_script(rt.alloc(), &line).err(), fault);
     }
+    Ok(())
+}
+
+#[test]
+fn writes_a_next(rt: HostRuntime) -> Result<(), Fail> {
+    let call = Call::Next(NextCall {
+        guid: Guid::read_bytes(GUID)?,
+        name: Units::new(rt.alloc(), &[0x41, 0x20])?,
+        room: u32::MAX,
+    });
+    let mut out = Bytes::new(rt.alloc());
+    write_call(&call, &mut out)?;
+    let want = spelled(&rt, b"next G A%0020 4294967295")?;
+    assert_eq!(rt; out.as_slice(), want.as_slice());
     Ok(())
 }
 

@@ -5,10 +5,10 @@ ghost use Rattle.hex.specs.Hex.{encode_lower};
 ghost use Rattle.std.specs.List.{flat_map};
 ghost use Rattle.script_text.specs.Names.{is_plain};
 ghost use Rattle.script_text.specs.Texts.{attributes_text, bytes_text, escaped_text, unit_text, name_text, call_text};
-ghost use Rattle.script_text.specs.Appended.{Extends, named_text, get_text, verdict_text, set_text};
+ghost use Rattle.script_text.specs.Appended.{Extends, named_text, roomed_text, verdict_text, set_text};
 
 use itoa::Buffer;
-use var_types::{Bytes, Call, GetCall, Guid, OutOfMemory, SetCall, Units, Verdict};
+use var_types::{Bytes, Call, Guid, OutOfMemory, SetCall, Units, Verdict};
 
 /// How many bytes are made digits at a time, in a buffer on the stack.
 const PIECE: usize = 32;
@@ -135,13 +135,19 @@ fn write_named(verb: &[u8], guid: &Guid, name: &Units, out: &mut Bytes) -> Resul
     write_name(name.as_slice(), out)
 }
 
-fn write_get(call: &GetCall, out: &mut Bytes) -> Result<(), OutOfMemory>
-    ensures ok { OnOk result (out.new ≡ out.old ++ get_text call.now) }
+fn write_roomed(
+    verb: &[u8],
+    guid: &Guid,
+    name: &Units,
+    room: u32,
+    out: &mut Bytes,
+) -> Result<(), OutOfMemory>
+    ensures ok { OnOk result (out.new ≡ out.old ++ roomed_text verb.now guid.now name.now room) }
     ensures err { OnErr result (Extends out.old out.new) }
 {
-    write_named(b"get ", &call.guid, &call.name, out)?;
+    write_named(verb, guid, name, out)?;
     out.append(b" ")?;
-    write_number(u64::from(call.room), out)
+    write_number(u64::from(room), out)
 }
 
 fn write_verdict(verdict: Verdict, out: &mut Bytes) -> Result<(), OutOfMemory>
@@ -173,7 +179,8 @@ pub fn write_call(call: &Call, out: &mut Bytes) -> Result<(), OutOfMemory>
     ensures err { OnErr result (Extends out.old out.new) }
 {
     match call {
-        Call::Get(call) => write_get(call, out),
+        Call::Get(call) => write_roomed(b"get ", &call.guid, &call.name, call.room, out),
+        Call::Next(call) => write_roomed(b"next ", &call.guid, &call.name, call.room, out),
         Call::Set(call) => write_set(call, out),
     }
 }

@@ -2,6 +2,7 @@
 #[derive(Clone, Copy, Debug, PartialEq, Eq)]
 pub enum Verb {
     Get,
+    Next,
     Set,
     /// A verb of the format whose lines are not read yet.
     Later,

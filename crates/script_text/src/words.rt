@@ -1,6 +1,6 @@
 ghost use Rattle.std.specs.Prelude.{◌≡◌, map};
 ghost use Rattle.script_text.specs.GivesLine.{GivesLine};
-ghost use Rattle.script_text.specs.Words.{is_later_verb, verb_of, guid_word, get_call, set_so_far, set_call, get_words, set_words, verb_words, call_words, words_call, line_call};
+ghost use Rattle.script_text.specs.Words.{is_later_verb, verb_of, guid_word, get_call, next_call, is_set_so_far, set_so_far, set_call, get_words, next_words, set_words, verb_words, call_words, words_call, line_call};
 
 use crate::line_fault::LineFault;
 use crate::lines::{is_comment, is_text, words_of};
@@ -9,16 +9,12 @@ use crate::numbers::{bytes_of, number_of, processor_of};
 use crate::{LineReason, Verb};
 use std::alloc::Global;
 use var_types::attributes::{BOOTSERVICE_ACCESS, RUNTIME_ACCESS};
-use var_types::{Bytes, Call, GetCall, Guid, SetCall, Units, Verdict};
-
-/// The attributes that a set may have so far: those of a volatile variable with both access bits.
-const SET_SO_FAR: u32 = BOOTSERVICE_ACCESS | RUNTIME_ACCESS;
+use var_types::{Bytes, Call, GetCall, Guid, NextCall, SetCall, Units, Verdict};
 
 fn is_later_verb(word: &[u8]) -> bool
     ensures { result ≡ is_later_verb word.now }
 {
-    word == b"next".as_slice()
-        || word == b"register".as_slice()
+    word == b"register".as_slice()
         || word == b"lock".as_slice()
         || word == b"disable".as_slice()
         || word == b"enabled".as_slice()
@@ -32,6 +28,9 @@ fn verb_of(word: &[u8]) -> Result<Verb, LineReason>
 {
     if word == b"get".as_slice() {
         return Ok(Verb::Get);
+    }
+    if word == b"next".as_slice() {
+        return Ok(Verb::Next);
     }
     if word == b"set".as_slice() {
         return Ok(Verb::Set);
@@ -62,6 +61,25 @@ fn get_call(alloc: Global, guid: &[u8], name: &[u8], room: &[u8]) -> Result<Call
     Ok(Call::Get(GetCall { guid, name, room }))
 }
 
+#[tactic(auto, unfolding(crate::specs::Words::next_call))]
+fn next_call(alloc: Global, guid: &[u8], name: &[u8], room: &[u8]) -> Result<Call, LineFault>
+    ensures { GivesLine result (next_call guid.now name.now room.now) }
+{
+    let guid = guid_word(guid)?;
+    let name = name_of(alloc, name)?;
+    let room = number_of(room)?;
+    Ok(Call::Next(NextCall { guid, name, room }))
+}
+
+// Whether a set may have these attributes so far: none, which deletes, or those of a volatile variable.
+fn is_set_so_far(attributes: u32) -> bool
+    ensures { result ≡ is_set_so_far attributes }
+{
+    attributes == 0
+        || attributes == BOOTSERVICE_ACCESS
+        || attributes == BOOTSERVICE_ACCESS | RUNTIME_ACCESS
+}
+
 fn set_so_far(
     has_verdict: bool,
     guid: Guid,
@@ -71,7 +89,7 @@ fn set_so_far(
 ) -> Result<Call, LineReason>
     ensures { result ≡ set_so_far has_verdict guid name attributes bytes }
 {
-    if has_verdict || attributes != SET_SO_FAR {
+    if has_verdict || !is_set_so_far(attributes) {
         return Err(LineReason::Later);
     }
     Ok(Call::Set(SetCall {
@@ -112,6 +130,16 @@ fn get_words(alloc: Global, words: &[&[u8]]) -> Result<Call, LineFault>
     }
 }
 
+#[tactic(auto, unfolding(crate::specs::Words::next_words))]
+fn next_words(alloc: Global, words: &[&[u8]]) -> Result<Call, LineFault>
+    ensures { GivesLine result (next_words (map (λ word. word.now) words.now)) }
+{
+    match words {
+        [guid, name, room] => next_call(alloc, guid, name, room),
+        _ => Err(LineFault::Reason(LineReason::Words)),
+    }
+}
+
 #[tactic(auto, unfolding(crate::specs::Words::set_words))]
 fn set_words(alloc: Global, words: &[&[u8]]) -> Result<Call, LineFault>
     ensures { GivesLine result (set_words (map (λ word. word.now) words.now)) }
@@ -129,6 +157,7 @@ fn verb_words(alloc: Global, processor: u8, verb: Verb, rest: &[&[u8]]) -> Resul
 {
     match verb {
         Verb::Get if processor == 0 => get_words(alloc, rest),
+        Verb::Next if processor == 0 => next_words(alloc, rest),
         Verb::Set if processor == 0 => set_words(alloc, rest),
         _ => Err(LineFault::Reason(LineReason::Later)),
     }

@@ -8,13 +8,13 @@ use Rattle.var_types.specs.Set.{deletes, made_by, refused, same_variable, set_ch
 use Rattle.var_types.specs.State.{State, stored_at}
 use Rattle.var_types.specs.Step.{is_change, lacks_memory, set_replied, step}
 use Rattle.var_types.specs.declared.call.Call.{Call}
-use Rattle.var_types.specs.declared.call.Call.TheVariants.{Get, Set}
+use Rattle.var_types.specs.declared.call.Call.TheVariants.{Get, Next, Set}
 use Rattle.var_types.specs.declared.call.SetCall.{SetCall}
 use Rattle.var_types.specs.declared.key.Key.{Key}
 use Rattle.var_types.specs.declared.name.NameFault.{NameFault}
 use Rattle.var_types.specs.declared.reason.SetReason.{SetReason}
 use Rattle.var_types.specs.declared.reply.Reply.{Reply}
-use Rattle.var_types.specs.declared.reply.Reply.TheVariants.{Get as GetReplied, Set as SetReplied}
+use Rattle.var_types.specs.declared.reply.Reply.TheVariants.{Get as GetReplied, Next as NextReplied, Set as SetReplied}
 use Rattle.var_types.specs.declared.reply.SetReply.{SetReply}
 use Rattle.var_types.specs.declared.reply.SetReply.TheVariants as set
 use Rattle.var_types.specs.declared.variable.Variable.{Variable}
@@ -70,11 +70,13 @@ IsStep-named state call (Ok u) =
 pub IsStep-step : (state : State) (call : Call) → IsStep state (step state call)
 unfolding step set_step
 IsStep-step state (Get call) = record { counted = λ h. cc; kept = λ _. refl }
+IsStep-step state (Next call) = record { counted = λ h. cc; kept = λ _. refl }
 IsStep-step state (Set call) = IsStep-named state call (name_check call.name)
 
 -- a change doesn't lack memory
 pub memory_from_change : (reply : Reply) → is_change reply ≡ true → lacks_memory reply ≡ false
 memory_from_change (GetReplied reply) h = cc
+memory_from_change (NextReplied reply) h = cc
 memory_from_change (SetReplied set.OutOfMemory) h = cc
 memory_from_change (SetReplied set.Same) h = refl
 memory_from_change (SetReplied (set.Refused reason)) h = refl

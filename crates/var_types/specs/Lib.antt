@@ -6,8 +6,10 @@ pub mod Attributes
 pub mod State
 pub mod Room
 pub mod Get
+pub mod Next
 pub mod Set
 pub mod Step
 pub mod History
 pub mod Session
 pub mod Laws
+pub mod Walk

@@ -9,6 +9,15 @@ pub struct GetCall {
     pub room: u32,
 }
 
+/// A call of GetNextVariableName (UEFI 2.10, 8.2.2).
+#[derive(Debug, Drop)]
+pub struct NextCall {
+    pub guid: Guid,
+    pub name: Units,
+    /// How many bytes the caller's buffer for the name has.
+    pub room: u32,
+}
+
 /// A call of SetVariable (UEFI 2.10, 8.2.3).
 #[derive(Debug, Drop)]
 pub struct SetCall {
@@ -24,5 +33,6 @@ pub struct SetCall {
 #[derive(Debug, Drop)]
 pub enum Call {
     Get(GetCall),
+    Next(NextCall),
     Set(SetCall),
 }

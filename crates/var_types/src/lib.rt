@@ -23,7 +23,7 @@ mod verdict;
 
 pub use answered::{Answered, Route};
 pub use bytes::Bytes;
-pub use call::{Call, GetCall, SetCall};
+pub use call::{Call, GetCall, NextCall, SetCall};
 pub use guid::{Guid, NotAGuid};
 pub use key::Key;
 pub use laws::{changes_decide_the_state, stepped_sessions_are_legal};
@@ -31,7 +31,7 @@ pub use name::{NameFault, check_name};
 pub use out_of_memory::OutOfMemory;
 pub use policy::{Lock, Policy};
 pub use reason::SetReason;
-pub use reply::{GetReply, Reply, SetReply};
+pub use reply::{GetReply, NextReply, Reply, SetReply};
 pub use stamp::Stamp;
 pub use store::Store;
 pub use units::{Units, UnitsFault};

@@ -1,4 +1,4 @@
-use crate::{Bytes, SetReason};
+use crate::{Bytes, Key, SetReason};
 
 /// What GetVariable answers.
 #[derive(Debug, Drop)]
@@ -7,6 +7,19 @@ pub enum GetReply {
     /// The variable has more bytes than the caller's buffer.
     TooSmall { attributes: u32, needed: u32 },
     Ok { attributes: u32, bytes: Bytes },
+    OutOfMemory,
+}
+
+/// What GetNextVariableName answers.
+#[derive(Debug, Drop)]
+pub enum NextReply {
+    /// The name that was handed in is no variable's.
+    NoSuch,
+    /// No variable comes after.
+    End,
+    /// The next name, with its NUL, has more bytes than the caller's buffer.
+    TooSmall { needed: u32 },
+    Ok { key: Key },
     OutOfMemory,
 }
 
@@ -25,5 +38,6 @@ pub enum SetReply {
 #[derive(Debug, Drop)]
 pub enum Reply {
     Get(GetReply),
+    Next(NextReply),
     Set(SetReply),
 }

@@ -7,3 +7,4 @@ pub mod Report
 pub mod Input
 pub mod Outcome
 pub mod Plan
+pub mod Fitting

@@ -1,6 +1,7 @@
 use Rattle.std.specs.Prelude.{ℕ, List, [], ◌∷◌, ◌++◌, decimal, map, flat_map}
 use Rattle.var_types.specs.declared.call.Call.{Call}
-use Rattle.script_text.specs.Texts.{spaced, attributes_text, bytes_text, call_text}
+use Rattle.var_types.specs.Guid.{guid_text}
+use Rattle.script_text.specs.Texts.{spaced, attributes_text, bytes_text, name_text, call_text}
 use Rattle.varsvc.specs.declared.part.Part.{Part}
 use Rattle.varsvc.specs.declared.part.Part.TheVariants as part
 use Rattle.varsvc.specs.Word.{word_text}
@@ -11,6 +12,8 @@ part_text (part.Word word) = word_text word
 part_text (part.Number n) = decimal n
 part_text (part.Attributes n) = attributes_text n
 part_text (part.Bytes bytes) = bytes_text bytes.now
+part_text (part.Guid guid) = guid_text guid.now
+part_text (part.Name units) = name_text units.now
 part_text (part.Call call) = call_text call.now
 
 -- parts with a space before each

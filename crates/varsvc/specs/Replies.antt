@@ -1,11 +1,14 @@
 use Rattle.std.specs.Prelude.{ℕ, List, [], ◌∷◌, decimal}
-use Rattle.script_text.specs.Texts.{spaced, attributes_text, bytes_text}
+use Rattle.script_text.specs.Texts.{spaced, attributes_text, bytes_text, name_text}
+use Rattle.var_types.specs.Guid.{guid_text}
 use Rattle.var_types.specs.declared.name.NameFault.{NameFault}
 use Rattle.var_types.specs.declared.name.NameFault.TheVariants as name
 use Rattle.var_types.specs.declared.reason.SetReason.{SetReason}
 use Rattle.var_types.specs.declared.reason.SetReason.TheVariants as reason
 use Rattle.var_types.specs.declared.reply.GetReply.{GetReply}
 use Rattle.var_types.specs.declared.reply.GetReply.TheVariants as get
+use Rattle.var_types.specs.declared.reply.NextReply.{NextReply}
+use Rattle.var_types.specs.declared.reply.NextReply.TheVariants as next
 use Rattle.var_types.specs.declared.reply.Reply.{Reply}
 use Rattle.var_types.specs.declared.reply.Reply.TheVariants as reply
 use Rattle.var_types.specs.declared.reply.SetReply.{SetReply}
@@ -20,6 +23,14 @@ get_reply_text (get.TooSmall attributes needed) =
     spaced (word_text word.BufferTooSmall ∷ attributes_text attributes ∷ decimal needed ∷ [])
 get_reply_text (get.Ok attributes bytes) = spaced (word_text word.Success ∷ attributes_text attributes ∷ bytes_text bytes ∷ [])
 get_reply_text get.OutOfMemory = spaced (word_text word.NoMemory ∷ [])
+
+-- the reply of GetNextVariableName: the status as UEFI names it, and the next key or how many bytes its name needs (UEFI 2.10, 8.2.2)
+unfoldable pub next_reply_text : NextReply → List ℕ
+next_reply_text next.NoSuch = spaced (word_text word.InvalidParameter ∷ word_text word.NoSuch ∷ [])
+next_reply_text next.End = spaced (word_text word.NotFound ∷ word_text word.End ∷ [])
+next_reply_text (next.TooSmall needed) = spaced (word_text word.BufferTooSmall ∷ decimal needed ∷ [])
+next_reply_text (next.Ok key) = spaced (word_text word.Success ∷ guid_text key.guid ∷ name_text key.name ∷ [])
+next_reply_text next.OutOfMemory = spaced (word_text word.NoMemory ∷ [])
 
 -- the refusal of an ill-formed name
 unfoldable pub name_fault_text : NameFault → List ℕ
@@ -51,4 +62,5 @@ set_reply_text set.OutOfMemory = spaced (word_text word.NoMemory ∷ [])
 -- the text of a reply
 unfoldable pub reply_text : Reply → List ℕ
 reply_text (reply.Get r) = get_reply_text r
+reply_text (reply.Next r) = next_reply_text r
 reply_text (reply.Set r) = set_reply_text r

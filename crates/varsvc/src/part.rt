@@ -2,9 +2,9 @@ ghost use Rattle.std.specs.Prelude.{◌≡◌, ◌++◌, [], ◌∷◌, map, OnO
 ghost use Rattle.varsvc.specs.Line.{part_text, later_parts_text, parts_text, line_text};
 
 use crate::word::Word;
-use script_text::text::{write_attributes, write_bytes, write_number};
+use script_text::text::{write_attributes, write_bytes, write_name, write_number};
 use script_text::write_call;
-use var_types::{Bytes, Call, OutOfMemory};
+use var_types::{Bytes, Call, Guid, OutOfMemory};
 
 /// A part of a line that is printed.
 #[derive(Clone, Copy, Debug)]
@@ -13,6 +13,8 @@ pub enum Part<'a> {
     Number(u64),
     Attributes(u32),
     Bytes(&'a [u8]),
+    Guid(&'a Guid),
+    Name(&'a [u16]),
     Call(&'a Call),
 }
 
@@ -24,6 +26,8 @@ fn write_part(part: &Part, out: &mut Bytes) -> Result<(), OutOfMemory>
         Part::Number(n) => write_number(*n, out),
         Part::Attributes(n) => write_attributes(*n, out),
         Part::Bytes(bytes) => write_bytes(bytes, out),
+        Part::Guid(guid) => guid.write(out),
+        Part::Name(units) => write_name(units, out),
         Part::Call(call) => write_call(call, out),
     }
 }

@@ -1,9 +1,9 @@
 ghost use Rattle.std.specs.Prelude.{◌≡◌, ◌++◌, OnOk};
-ghost use Rattle.varsvc.specs.Replies.{get_reply_text, name_fault_text, reason_text, set_reply_text, reply_text};
+ghost use Rattle.varsvc.specs.Replies.{get_reply_text, next_reply_text, name_fault_text, reason_text, set_reply_text, reply_text};
 
 use crate::part::{Part, write_parts};
 use crate::word::Word;
-use var_types::{Bytes, GetReply, NameFault, OutOfMemory, Reply, SetReason, SetReply};
+use var_types::{Bytes, GetReply, NameFault, NextReply, OutOfMemory, Reply, SetReason, SetReply};
 
 #[tactic(auto, unfolding(crate::specs::Replies::get_reply_text))]
 fn write_get_reply(reply: &GetReply, out: &mut Bytes) -> Result<(), OutOfMemory>
@@ -22,6 +22,30 @@ fn write_get_reply(reply: &GetReply, out: &mut Bytes) -> Result<(), OutOfMemory>
             write_parts(&[Part::Word(Word::Success), attributes, bytes], out)
         }
         GetReply::OutOfMemory => write_parts(&[Part::Word(Word::NoMemory)], out),
+    }
+}
+
+#[tactic(auto, unfolding(crate::specs::Replies::next_reply_text))]
+fn write_next_reply(reply: &NextReply, out: &mut Bytes) -> Result<(), OutOfMemory>
+    ensures { OnOk result (out.new ≡ out.old ++ next_reply_text reply.now) }
+{
+    match reply {
+        NextReply::NoSuch => {
+            write_parts(&[Part::Word(Word::InvalidParameter), Part::Word(Word::NoSuch)], out)
+        }
+        NextReply::End => {
+            write_parts(&[Part::Word(Word::NotFound), Part::Word(Word::End)], out)
+        }
+        NextReply::TooSmall { needed } => {
+            let needed = Part::Number(u64::from(*needed));
+            write_parts(&[Part::Word(Word::BufferTooSmall), needed], out)
+        }
+        NextReply::Ok { key } => {
+            let guid = Part::Guid(&key.guid);
+            let name = Part::Name(key.name.as_slice());
+            write_parts(&[Part::Word(Word::Success), guid, name], out)
+        }
+        NextReply::OutOfMemory => write_parts(&[Part::Word(Word::NoMemory)], out),
     }
 }
 
@@ -105,6 +129,7 @@ pub fn write_reply(reply: &Reply, out: &mut Bytes) -> Result<(), OutOfMemory>
 {
     match reply {
         Reply::Get(reply) => write_get_reply(reply, out),
+        Reply::Next(reply) => write_next_reply(reply, out),
         Reply::Set(reply) => write_set_reply(reply, out),
     }
 }

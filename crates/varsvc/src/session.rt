@@ -6,13 +6,14 @@ ghost use Rattle.var_types.specs.Session.{AreStepped, calls_of};
 
 use std::alloc::{AllocError, Global};
 use svc_plain::Plain;
-use var_types::{Answered, Call, GetReply, Reply, Route, SetReply};
+use var_types::{Answered, Call, GetReply, NextReply, Reply, Route, SetReply};
 
 fn lacks_memory(reply: &Reply) -> bool
     ensures { result ≡ lacks_memory reply.now }
 {
     match reply {
         Reply::Get(GetReply::OutOfMemory) => true,
+        Reply::Next(NextReply::OutOfMemory) => true,
         Reply::Set(SetReply::OutOfMemory) => true,
         _ => false,
     }

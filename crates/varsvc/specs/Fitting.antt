@@ -1,0 +1,81 @@
+use Rattle.std.specs.Prelude.{◌≡◌, ℕ, ◌^◌, ◌<◌, ◌≤◌, List, length, All}
+use Rattle.var_types.specs.declared.answered.Answered.{Answered}
+use Rattle.var_types.specs.declared.call.Call.{Call}
+use Rattle.var_types.specs.declared.call.Call.TheVariants as call
+use Rattle.var_types.specs.declared.guid.Guid.{Guid}
+use Rattle.var_types.specs.declared.reason.SetReason.{SetReason}
+use Rattle.var_types.specs.declared.reason.SetReason.TheVariants as reason
+use Rattle.var_types.specs.declared.reply.GetReply.{GetReply}
+use Rattle.var_types.specs.declared.reply.GetReply.TheVariants as get
+use Rattle.var_types.specs.declared.reply.NextReply.{NextReply}
+use Rattle.var_types.specs.declared.reply.NextReply.TheVariants as next
+use Rattle.var_types.specs.declared.reply.Reply.{Reply}
+use Rattle.var_types.specs.declared.reply.Reply.TheVariants as reply
+use Rattle.var_types.specs.declared.reply.SetReply.{SetReply}
+use Rattle.var_types.specs.declared.reply.SetReply.TheVariants as set
+use Rattle.var_types.specs.Session.{calls_of}
+use Rattle.varsvc.specs.Report.{session_text}
+
+-- a reply is of its call's kind (UEFI 2.10, 8.2)
+abbrev pub IsOfKind : Call → Reply → Type 0
+IsOfKind (call.Get c) (reply.Get r) = Unit {0}
+IsOfKind (call.Next c) (reply.Next r) = Unit {0}
+IsOfKind (call.Set c) (reply.Set r) = Unit {0}
+IsOfKind (call.Get c) (reply.Next r) = ⊥
+IsOfKind (call.Get c) (reply.Set r) = ⊥
+IsOfKind (call.Next c) (reply.Get r) = ⊥
+IsOfKind (call.Next c) (reply.Set r) = ⊥
+IsOfKind (call.Set c) (reply.Get r) = ⊥
+IsOfKind (call.Set c) (reply.Next r) = ⊥
+
+-- values are bytes, units of a name, a GUID
+abbrev pub AreBytes : List ℕ → Type 0
+AreBytes bytes = All (λ b. b < 2 ^ 8) bytes
+
+abbrev pub AreUnits : List ℕ → Type 0
+AreUnits units = All (λ u. u < 2 ^ 16) units
+
+abbrev pub IsGuid : Guid → Type 0
+IsGuid guid = (length guid.bytes ≡ 16) × AreBytes guid.bytes
+
+-- the parts of a reply are values of their types, as those of a program always are
+abbrev pub HasValuesOfGet : GetReply → Type 0
+HasValuesOfGet get.NotFound = Unit {0}
+HasValuesOfGet (get.TooSmall attributes needed) = attributes < 2 ^ 32
+HasValuesOfGet (get.Ok attributes bytes) = (attributes < 2 ^ 32) × AreBytes bytes
+HasValuesOfGet get.OutOfMemory = Unit {0}
+
+abbrev pub HasValuesOfNext : NextReply → Type 0
+HasValuesOfNext next.NoSuch = Unit {0}
+HasValuesOfNext next.End = Unit {0}
+HasValuesOfNext (next.TooSmall needed) = Unit {0}
+HasValuesOfNext (next.Ok key) = IsGuid key.guid × AreUnits key.name
+HasValuesOfNext next.OutOfMemory = Unit {0}
+
+abbrev pub HasValuesOfReason : SetReason → Type 0
+HasValuesOfReason (reason.Name fault) = Unit {0}
+HasValuesOfReason (reason.Size have limit) = Unit {0}
+HasValuesOfReason reason.Missing = Unit {0}
+HasValuesOfReason (reason.AttributesDiffer stored asked) = (stored < 2 ^ 32) × (asked < 2 ^ 32)
+HasValuesOfReason (reason.Room need have) = Unit {0}
+HasValuesOfReason (reason.HistoryFull made) = Unit {0}
+
+abbrev pub HasValuesOfSet : SetReply → Type 0
+HasValuesOfSet set.Ok = Unit {0}
+HasValuesOfSet set.Same = Unit {0}
+HasValuesOfSet (set.Refused reason) = HasValuesOfReason reason
+HasValuesOfSet set.OutOfMemory = Unit {0}
+
+abbrev pub HasValues : Reply → Type 0
+HasValues (reply.Get r) = HasValuesOfGet r
+HasValues (reply.Next r) = HasValuesOfNext r
+HasValues (reply.Set r) = HasValuesOfSet r
+
+-- an answered call has a reply of its kind (this project's own)
+abbrev pub IsFitting : Answered → Type 0
+IsFitting a = IsOfKind a.call a.reply × HasValues a.reply
+
+-- for the calls of a script, fitting sessions with one text have the same answered calls, and so the same history (this project's own)
+abbrev pub OneTextOneSession : Type 0
+OneTextOneSession =
+    (xs ys : List Answered) → calls_of xs ≡ calls_of ys → All IsFitting xs → All IsFitting ys → session_text xs ≡ session_text ys → xs ≡ ys

@@ -1,3 +1,4 @@
 pub mod Sums
 pub mod Rooms
 pub mod Decisions
+pub mod Nexts

@@ -1,2 +1,3 @@
 pub mod Used
 pub mod Decision
+pub mod Above

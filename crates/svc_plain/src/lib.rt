@@ -2,6 +2,7 @@
 #![tactic(auto)]
 
 mod decision;
+mod next;
 mod plain;
 mod rules;
 #[cfg(test)]

@@ -6,6 +6,7 @@ ghost use Rattle.std.specs.Option.{option_copied};
 ghost use Rattle.var_types.specs.Attributes.{store_of};
 ghost use Rattle.var_types.specs.Get.{get_reply, get_found};
 ghost use Rattle.var_types.specs.Key.{key_cmp, key_of};
+ghost use Rattle.var_types.specs.Next.{next_reply, next_named, next_behind, next_above};
 ghost use Rattle.var_types.specs.Room.{record_size, room_of};
 ghost use Rattle.var_types.specs.Set.{set_step, set_named, set_stored, set_put, set_key, set_change, made_by};
 ghost use Rattle.var_types.specs.State.{start, stored_at, visible_at};
@@ -13,6 +14,7 @@ ghost use Rattle.var_types.specs.Step.{step, lacks_memory};
 ghost use Rattle.svc_plain.specs.Used.{IsCounted, used_of, used_without};
 
 use crate::decision::{Decision, decision_of};
+use crate::next::{key_above, next_found};
 use crate::rules::{
     LARGEST_RECORD, key_of, made_by, record_size, room_limit, room_made, room_of, store_of,
 };
@@ -21,7 +23,8 @@ use std::alloc::Global;
 use std::collections::BTreeMap;
 use std::marker::Model;
 use var_types::{
-    Bytes, Call, GetCall, GetReply, Key, Reply, SetCall, SetReason, SetReply, Variable, check_name,
+    Bytes, Call, GetCall, GetReply, Key, NameFault, NextCall, NextReply, Reply, SetCall, SetReason,
+    SetReply, Variable, check_name,
 };
 
 /// The variable service on one thread, which starts with no variable.
@@ -79,6 +82,7 @@ impl Plain {
     {
         match call {
             Call::Get(get) => Reply::Get(self.get_reply(get)),
+            Call::Next(next) => Reply::Next(self.next_reply(next)),
             Call::Set(set) => Reply::Set(self.set_step(set)),
         }
     }
@@ -107,6 +111,47 @@ impl Plain {
             → result ≡ get_found (visible_at self.now (key_of call.now.guid call.now.name)) call.now.room }
     {
         get_stored(self.alloc, &self.variables, call)
+    }
+
+    /// A call for the next name, by the name that it goes on from.
+    #[tactic(auto, unfolding(var_types::specs::Next::next_reply))]
+    fn next_reply(&self, call: &NextCall) -> NextReply
+        ensures { lacks_memory (Reply.Next result) ≡ false → result ≡ next_reply self.now call.now }
+    {
+        self.next_named(call, check_name(call.name.as_slice()))
+    }
+
+    /// A call for the next name, by what the check of the name that it goes on from says.
+    #[tactic(auto, unfolding(var_types::specs::Next::next_named))]
+    fn next_named(&self, call: &NextCall, named: Result<(), NameFault>) -> NextReply
+        ensures { lacks_memory (Reply.Next result) ≡ false → result ≡ next_named self.now call.now named }
+    {
+        match named {
+            Err(NameFault::Empty) => next_found(self.next_above(None), call.room),
+            Err(NameFault::TooLong { .. } | NameFault::InnerNul { .. }) => NextReply::NoSuch,
+            Ok(()) => self.next_behind(call),
+        }
+    }
+
+    /// The answer behind a key, which must be a variable's.
+    fn next_behind(&self, call: &NextCall) -> NextReply
+        ensures { lacks_memory (Reply.Next result) ≡ false
+            → result ≡ next_behind self.now call.now (visible_at self.now (key_of call.now.guid call.now.name)) }
+    {
+        let Ok(key) = key_of(call.guid, &call.name) else {
+            return NextReply::OutOfMemory;
+        };
+        match self.variables.get(&key) {
+            None => NextReply::NoSuch,
+            Some(_) => next_found(self.next_above(Some(&key)), call.room),
+        }
+    }
+
+    /// The least key above a bound, where there is one: in the boot phase callers see every variable.
+    fn next_above(&self, bound: Option<&Key>) -> Option<&Key>
+        ensures { option_copied result ≡ next_above self.now (option_copied bound.entry) }
+    {
+        key_above(&self.variables, bound)
     }
 
     /// A set, by its name.

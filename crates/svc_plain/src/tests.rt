@@ -2,17 +2,35 @@ use crate::Plain;
 use std::alloc::Global;
 use std::test::Fail;
 use var_types::{
-    Bytes, Call, GetCall, GetReply, Guid, NameFault, Reply, SetCall, SetReason, SetReply, Units,
-    Verdict,
+    Bytes, Call, GetCall, GetReply, Guid, NameFault, NextCall, NextReply, Reply, SetCall,
+    SetReason, SetReply, Units, Verdict,
 };
 
 const VENDOR: Guid = Guid { bytes: [7; 16] };
+
+/// 8be4df61-93ca-11d2-aa0d-00e098032b8c.
+const LOWER: Guid = Guid {
+    bytes: [
+        0x61, 0xdf, 0xe4, 0x8b, 0xca, 0x93, 0xd2, 0x11, 0xaa, 0x0d, 0x00, 0xe0, 0x98, 0x03, 0x2b,
+        0x8c,
+    ],
+};
+
+/// 414e6bdd-e47b-47cc-b244-bb61020cf516, whose text is below the other's and whose stored bytes are above.
+const UPPER: Guid = Guid {
+    bytes: [
+        0xdd, 0x6b, 0x4e, 0x41, 0x7b, 0xe4, 0xcc, 0x47, 0xb2, 0x44, 0xbb, 0x61, 0x02, 0x0c, 0xf5,
+        0x16,
+    ],
+};
 
 const A: u16 = 65;
 
 const B: u16 = 66;
 
 const C: u16 = 67;
+
+const Z: u16 = 90;
 
 /// A set of `size` equal bytes.
 fn set(
@@ -22,8 +40,19 @@ fn set(
     attributes: u32,
     size: usize,
 ) -> Result<Reply, Fail> {
+    set_of(service, alloc, (VENDOR, name), attributes, size)
+}
+
+/// A set of `size` equal bytes under a vendor's name.
+fn set_of(
+    service: &mut Plain,
+    alloc: Global,
+    (guid, name): (Guid, &[u16]),
+    attributes: u32,
+    size: usize,
+) -> Result<Reply, Fail> {
     let call = Call::Set(SetCall {
-        guid: VENDOR,
+        guid,
         name: Units::new(alloc, name)?,
         attributes,
         bytes: Bytes::from_vec(vec![in alloc; 9; size]?),
@@ -39,6 +68,33 @@ fn get(service: &mut Plain, alloc: Global, name: &[u16], room: u32) -> Result<Re
         room,
     });
     Ok(service.step(&call))
+}
+
+fn next(
+    service: &mut Plain,
+    alloc: Global,
+    (guid, name): (Guid, &[u16]),
+    room: u32,
+) -> Result<Reply, Fail> {
+    let call = Call::Next(NextCall {
+        guid,
+        name: Units::new(alloc, name)?,
+        room,
+    });
+    Ok(service.step(&call))
+}
+
+/// A service with three variables, which were set from the last to the first.
+fn three_variables(alloc: Global) -> Result<Plain, Fail> {
+    let mut service = Plain::new(alloc, 9);
+    for (guid, unit) in [(UPPER, Z), (LOWER, B), (LOWER, A)] {
+        set_of(&mut service, alloc, (guid, &[unit]), 6, 1)?;
+    }
+    Ok(service)
+}
+
+fn is_no_such(reply: &Reply) -> bool {
+    matches!(reply, Reply::Next(NextReply::NoSuch))
 }
 
 fn is_done(reply: &Reply) -> bool {
@@ -163,5 +219,72 @@ fn a_store_is_bounded(rt: HostRuntime) -> Result<(), Fail> {
         have: 65_508,
     };
     assert_eq!(rt; refusal(&third), Some(want));
+    Ok(())
+}
+
+#[test]
+fn a_walk_answers_each_key_in_order(rt: HostRuntime) -> Result<(), Fail> {
+    let alloc = rt.alloc();
+    let mut service = three_variables(alloc)?;
+    let steps = [
+        ((UPPER, [].as_slice()), (LOWER, A)),
+        ((LOWER, [A].as_slice()), (LOWER, B)),
+        ((LOWER, [B].as_slice()), (UPPER, Z)),
+    ];
+    for (from, (guid, unit)) in steps {
+        match next(&mut service, alloc, from, 4)? {
+            Reply::Next(NextReply::Ok { key }) => {
+                assert_eq!(rt; key.guid, guid);
+                assert_eq!(rt; key.name.as_slice(), [unit].as_slice());
+            }
+            other => panic!(rt; "{other:?}"),
+        }
+    }
+    let last = next(&mut service, alloc, (UPPER, &[Z]), 4)?;
+    assert!(rt; matches!(last, Reply::Next(NextReply::End)));
+    Ok(())
+}
+
+#[test]
+fn a_name_must_fit(rt: HostRuntime) -> Result<(), Fail> {
+    let alloc = rt.alloc();
+    let mut service = three_variables(alloc)?;
+    match next(&mut service, alloc, (VENDOR, &[]), 3)? {
+        Reply::Next(NextReply::TooSmall { needed }) => assert_eq!(rt; needed, 4),
+        other => panic!(rt; "{other:?}"),
+    }
+    Ok(())
+}
+
+#[test]
+fn a_walk_goes_on_from_a_variable_alone(rt: HostRuntime) -> Result<(), Fail> {
+    let alloc = rt.alloc();
+    let mut service = three_variables(alloc)?;
+    let long = vec![in alloc; A; 513]?;
+    for name in [[C].as_slice(), long.as_slice(), [A, 0, B].as_slice()] {
+        assert!(rt; is_no_such(&next(&mut service, alloc, (LOWER, name), 9)?));
+    }
+    assert!(rt; is_no_such(&next(&mut service, alloc, (UPPER, &[A]), 9)?));
+    Ok(())
+}
+
+#[test]
+fn a_walk_leaves_out_what_was_deleted(rt: HostRuntime) -> Result<(), Fail> {
+    let alloc = rt.alloc();
+    let mut service = three_variables(alloc)?;
+    let differ = set_of(&mut service, alloc, (LOWER, &[A]), 2, 1)?;
+    let want = SetReason::AttributesDiffer {
+        stored: 6,
+        asked: 2,
+    };
+    assert_eq!(rt; refusal(&differ), Some(want));
+    assert!(rt; is_done(&set_of(&mut service, alloc, (LOWER, &[A]), 0, 0)?));
+    let missing = set_of(&mut service, alloc, (LOWER, &[A]), 0, 0)?;
+    assert_eq!(rt; refusal(&missing), Some(SetReason::Missing));
+    assert!(rt; is_no_such(&next(&mut service, alloc, (LOWER, &[A]), 9)?));
+    match next(&mut service, alloc, (LOWER, &[]), 9)? {
+        Reply::Next(NextReply::Ok { key }) => assert_eq!(rt; key.name.as_slice(), [B].as_slice()),
+        other => panic!(rt; "{other:?}"),
+    }
     Ok(())
 }

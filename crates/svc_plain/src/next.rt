@@ -1,0 +1,58 @@
+//! The parts of the next rule that read the map or a key alone.
+ghost use Rattle.std.specs.Prelude.{◌≡◌, false, find};
+ghost use Rattle.std.specs.Option.{option_copied, option_map};
+ghost use Rattle.std.specs.Range.Bound.{bound_map};
+ghost use Rattle.svc_plain.specs.Above.{start_above};
+ghost use Rattle.var_types.specs.Next.{is_above, next_found};
+ghost use Rattle.var_types.specs.Step.{lacks_memory};
+ghost use Rattle.var_types.specs.declared.reply.Reply.TheVariants.{Next as NextReplied};
+
+use std::collections::BTreeMap;
+use std::ops::Bound;
+use var_types::{Key, NextReply, Variable};
+
+/// The least key of a map above a bound, where there is one.
+pub(crate) fn key_above<'a>(
+    variables: &'a BTreeMap<Key, Variable>,
+    bound: Option<&Key>,
+) -> Option<&'a Key>
+    ensures { option_copied result
+        ≡ option_map (λ e. e.0) (find (λ e. is_above (option_copied bound.entry) e.0) variables.now.entries) }
+{
+    let mut above = variables.range((start_above(bound), Bound::Unbounded));
+    let (key, _) = above.next()?;
+    Some(key)
+}
+
+/// Where a range of the keys above a bound starts.
+fn start_above(bound: Option<&Key>) -> Bound<&Key>
+    ensures { bound_map (λ key. key.now) result ≡ start_above (option_copied bound.entry) }
+{
+    match bound {
+        None => Bound::Unbounded,
+        Some(key) => Bound::Excluded(key),
+    }
+}
+
+/// The answer from the next key, which is copied.
+pub(crate) fn next_found(key: Option<&Key>, room: u32) -> NextReply
+    ensures { lacks_memory (NextReplied result) ≡ false → result ≡ next_found (option_copied key.entry) room }
+{
+    match key {
+        None => NextReply::End,
+        Some(key) => next_key(key, room),
+    }
+}
+
+fn next_key(key: &Key, room: u32) -> NextReply
+    ensures { lacks_memory (NextReplied result) ≡ false → result ≡ next_found (Some key.now) room }
+{
+    let needed = 2 * key.name.as_slice().len() as u32 + 2;
+    if room < needed {
+        return NextReply::TooSmall { needed };
+    }
+    match key.clone() {
+        Err(_) => NextReply::OutOfMemory,
+        Ok(key) => NextReply::Ok { key },
+    }
+}

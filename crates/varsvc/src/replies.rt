@@ -31,11 +31,12 @@ fn write_next_reply(reply: &NextReply, out: &mut Bytes) -> Result<(), OutOfMemor
 {
     match reply {
         NextReply::NoSuch => {
-            write_parts(&[Part::Word(Word::InvalidParameter), Part::Word(Word::NoSuch)], out)
+            write_parts(
+                &[Part::Word(Word::InvalidParameter), Part::Word(Word::NoSuch)],
+                out,
+            )
         }
-        NextReply::End => {
-            write_parts(&[Part::Word(Word::NotFound), Part::Word(Word::End)], out)
-        }
+        NextReply::End => { write_parts(&[Part::Word(Word::NotFound), Part::Word(Word::End)], out) }
         NextReply::TooSmall { needed } => {
             let needed = Part::Number(u64::from(*needed));
             write_parts(&[Part::Word(Word::BufferTooSmall), needed], out)

@@ -5,3 +5,12 @@ pub mod Stepped
 pub mod Inputs
 pub mod Scripts
 pub mod Plans
+pub mod Cut
+pub mod WordBytes
+pub mod SameTexts
+pub mod SameNames
+pub mod SameWords
+pub mod ReplyWords
+pub mod SameReplies
+pub mod SessionLines
+pub mod OneSession

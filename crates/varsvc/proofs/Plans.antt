@@ -1,4 +1,4 @@
-use Rattle.std.proofs.Common.{◌≡◌, ◌⊎◌, ℕ, Bool, true, false, List, [], ◌∷◌, length, max, take, map, Option, Some, None, Result, Ok, Err, IfSome, refl, sym, ap, ◌∙◌, subst, inl, inr, ⊎_elim, arith, lit<, if◌then◌else◌}
+use Rattle.std.proofs.Common.{◌≡◌, ◌⊎◌, ℕ, Bool, true, false, List, [], ◌∷◌, length, max, Option, Some, None, Ok, Err, IfSome, refl, sym, ap, ◌∙◌, subst, inl, inr, ⊎_elim, arith, lit<, if◌then◌else◌}
 use Rattle.std.proofs.lemmas.List.{length-map}
 use Rattle.script_text.specs.declared.fault.ScriptFault.{ScriptFault}
 use Rattle.script_text.specs.Script.{script_of}
@@ -8,7 +8,7 @@ use Rattle.var_types.specs.Session.{AreStepped, calls_of}
 use Rattle.var_types.specs.State.{start}
 use Rattle.varsvc.specs.declared.plan.Plan.{Plan}
 use Rattle.varsvc.specs.declared.plan.Plan.TheVariants.{Print, NoMemory}
-use Rattle.varsvc.specs.FaultLines.{memory_line, script_line, input_line}
+use Rattle.varsvc.specs.FaultLines.{memory_line, script_line}
 use Rattle.varsvc.specs.Input.{IsInput}
 use Rattle.varsvc.specs.Outcome.{IsSessionOf, IsRun, Reports, RefusesScript, lacks_any}
 use Rattle.varsvc.specs.Plan.{status_of, text_of, report_status, PlansRun, PlansScript}

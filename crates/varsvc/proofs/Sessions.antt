@@ -1,7 +1,7 @@
-use Rattle.std.proofs.Common.{◌≡◌, ℕ, ◌+◌, ◌<◌, ◌≤◌, Bool, true, false, List, [], ◌∷◌, ◌++◌, length, get_or, take, drop, flat_map, refl, sym, ap, ◌∙◌, append_assoc, arith, if◌then◌else◌}
+use Rattle.std.proofs.Common.{◌≡◌, ℕ, ◌+◌, ◌<◌, true, false, List, [], ◌∷◌, ◌++◌, length, get_or, take, flat_map, refl, sym, ap, ◌∙◌, append_assoc, arith, if◌then◌else◌}
 use Rattle.std.proofs.lemmas.List.{append-nil, length-take-le, take_more}
 use Rattle.var_types.specs.declared.answered.Answered.{Answered}
-use Rattle.var_types.specs.Session.{entries_from, entry_of, history_of}
+use Rattle.var_types.specs.Session.{entries_from, entry_of}
 use Rattle.var_types.specs.Step.{is_change}
 use Rattle.varsvc.specs.Report.{indexed, entry_line, change_lines}
 

@@ -1,8 +1,10 @@
-use Rattle.std.specs.Prelude.{◌≡◌, ℕ, ◌^◌, ◌<◌, ◌≤◌, List, length, All}
+use Rattle.std.specs.Prelude.{◌≡◌, ℕ, ◌^◌, ◌<◌, List, length, All}
 use Rattle.var_types.specs.declared.answered.Answered.{Answered}
 use Rattle.var_types.specs.declared.call.Call.{Call}
 use Rattle.var_types.specs.declared.call.Call.TheVariants as call
 use Rattle.var_types.specs.declared.guid.Guid.{Guid}
+use Rattle.var_types.specs.declared.name.NameFault.{NameFault}
+use Rattle.var_types.specs.declared.name.NameFault.TheVariants as fault
 use Rattle.var_types.specs.declared.reason.SetReason.{SetReason}
 use Rattle.var_types.specs.declared.reason.SetReason.TheVariants as reason
 use Rattle.var_types.specs.declared.reply.GetReply.{GetReply}
@@ -41,24 +43,29 @@ IsGuid guid = (length guid.bytes ≡ 16) × AreBytes guid.bytes
 -- the parts of a reply are values of their types, as those of a program always are
 abbrev pub HasValuesOfGet : GetReply → Type 0
 HasValuesOfGet get.NotFound = Unit {0}
-HasValuesOfGet (get.TooSmall attributes needed) = attributes < 2 ^ 32
+HasValuesOfGet (get.TooSmall attributes needed) = (attributes < 2 ^ 32) × (needed < 2 ^ 32)
 HasValuesOfGet (get.Ok attributes bytes) = (attributes < 2 ^ 32) × AreBytes bytes
 HasValuesOfGet get.OutOfMemory = Unit {0}
 
 abbrev pub HasValuesOfNext : NextReply → Type 0
 HasValuesOfNext next.NoSuch = Unit {0}
 HasValuesOfNext next.End = Unit {0}
-HasValuesOfNext (next.TooSmall needed) = Unit {0}
+HasValuesOfNext (next.TooSmall needed) = needed < 2 ^ 32
 HasValuesOfNext (next.Ok key) = IsGuid key.guid × AreUnits key.name
 HasValuesOfNext next.OutOfMemory = Unit {0}
 
+abbrev pub HasValuesOfFault : NameFault → Type 0
+HasValuesOfFault fault.Empty = Unit {0}
+HasValuesOfFault (fault.TooLong units) = units < 2 ^ 64
+HasValuesOfFault (fault.InnerNul at) = at < 2 ^ 32
+
 abbrev pub HasValuesOfReason : SetReason → Type 0
-HasValuesOfReason (reason.Name fault) = Unit {0}
-HasValuesOfReason (reason.Size have limit) = Unit {0}
+HasValuesOfReason (reason.Name fault) = HasValuesOfFault fault
+HasValuesOfReason (reason.Size have limit) = (have < 2 ^ 64) × (limit < 2 ^ 32)
 HasValuesOfReason reason.Missing = Unit {0}
 HasValuesOfReason (reason.AttributesDiffer stored asked) = (stored < 2 ^ 32) × (asked < 2 ^ 32)
-HasValuesOfReason (reason.Room need have) = Unit {0}
-HasValuesOfReason (reason.HistoryFull made) = Unit {0}
+HasValuesOfReason (reason.Room need have) = (need < 2 ^ 32) × (have < 2 ^ 32)
+HasValuesOfReason (reason.HistoryFull made) = made < 2 ^ 64
 
 abbrev pub HasValuesOfSet : SetReply → Type 0
 HasValuesOfSet set.Ok = Unit {0}
@@ -71,9 +78,9 @@ HasValues (reply.Get r) = HasValuesOfGet r
 HasValues (reply.Next r) = HasValuesOfNext r
 HasValues (reply.Set r) = HasValuesOfSet r
 
--- an answered call has a reply of its kind (this project's own)
+-- an answered call has a reply of its kind, and its parts are values of their types (this project's own)
 abbrev pub IsFitting : Answered → Type 0
-IsFitting a = IsOfKind a.call a.reply × HasValues a.reply
+IsFitting a = IsOfKind a.call a.reply × HasValues a.reply × (a.place < 2 ^ 64)
 
 -- for the calls of a script, fitting sessions with one text have the same answered calls, and so the same history (this project's own)
 abbrev pub OneTextOneSession : Type 0

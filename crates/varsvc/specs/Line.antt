@@ -1,5 +1,4 @@
 use Rattle.std.specs.Prelude.{ℕ, List, [], ◌∷◌, ◌++◌, decimal, map, flat_map}
-use Rattle.var_types.specs.declared.call.Call.{Call}
 use Rattle.var_types.specs.Guid.{guid_text}
 use Rattle.script_text.specs.Texts.{spaced, attributes_text, bytes_text, name_text, call_text}
 use Rattle.varsvc.specs.declared.part.Part.{Part}

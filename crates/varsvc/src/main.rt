@@ -4,6 +4,7 @@
 mod fault_lines;
 mod image_name;
 mod input;
+mod laws;
 mod order;
 mod part;
 mod plan;
@@ -18,6 +19,7 @@ mod word;
 mod words;
 
 pub use image_name::ImageName;
+pub use laws::one_text_one_session;
 pub use order::Order;
 use outside::{StdSink, StdSource};
 use plan::Plan;

@@ -1,4 +1,4 @@
-use Rattle.std.proofs.Common.{◌≡◌, ◌++◌, arith, sym, ap, ◌∙◌}
+use Rattle.std.proofs.Common.{arith}
 use Rattle.std.proofs.lemmas.Grind.{common_steps}
 use Rattle.varsvc.proofs.Parts.{parts_text-cons}
 use Rattle.varsvc.proofs.part.write_parts.Goals as goal

@@ -1,4 +1,4 @@
-use Rattle.std.proofs.Common.{◌≡◌, ℕ, List, [], ◌∷◌, ◌++◌, OnOk, sym, ap, ◌∙◌, refl, subst, append_assoc, decimal}
+use Rattle.std.proofs.Common.{◌≡◌, ℕ, List, [], ◌∷◌, ◌++◌, OnOk, ap, ◌∙◌, subst, append_assoc, decimal}
 use Rattle.script_text.specs.Texts.{spaced}
 use Rattle.varsvc.specs.Replies.{reply_text}
 use Rattle.varsvc.specs.Report.{answer_line, route_word}

@@ -1,4 +1,4 @@
-use Rattle.std.proofs.Common.{◌≡◌, ℕ, List, Result, Option, None, map, string_bytes, Global, String, sym, ap, subst, ◌∙◌}
+use Rattle.std.proofs.Common.{◌≡◌, ℕ, List, Option, map, string_bytes, Global, String, sym, ap, subst, ◌∙◌}
 use Rattle.std.specs.List.{position}
 use Rattle.varsvc.specs.Order.{run_order, dashed_order, is_dashed, GivesOrder}
 use Rattle.varsvc.proofs.Positions.{position-map}

@@ -1,3 +1,6 @@
 pub mod Keys
 pub mod Steps
 pub mod Sessions
+pub mod Orders
+pub mod Soundness
+pub mod Walks

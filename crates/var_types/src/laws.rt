@@ -1,5 +1,8 @@
-//! Laws of the definitions of sessions: each is the contract of a function that does nothing.
+//! Laws of the definitions of sessions and walks: each is the contract of a function that does nothing.
+ghost use Rattle.std.specs.Prelude.{ℕ, []};
 ghost use Rattle.var_types.specs.Laws.{SteppedSessionsAreLegal, ChangesLeaveTheState, SameChangesLeaveTheSameState};
+ghost use Rattle.var_types.specs.State.{start};
+ghost use Rattle.var_types.specs.Walk.{IsSound, ChangesKeepSoundness, WalksAnswerEachKeyOnce};
 
 /// A session that the one-thread service stepped is a legal one.
 pub fn stepped_sessions_are_legal()
@@ -10,4 +13,15 @@ pub fn stepped_sessions_are_legal()
 pub fn changes_decide_the_state()
     ensures run { ChangesLeaveTheState }
     ensures same { SameChangesLeaveTheSameState }
+{}
+
+/// Every state that changes lead to from the start has its variables in key order, each once, under well-formed names.
+pub fn changes_keep_soundness()
+    ensures start { (limit : ℕ) → IsSound (start [] limit) }
+    ensures kept { ChangesKeepSoundness }
+{}
+
+/// A walk from an empty name, with room for every name, answers each visible key once, in key order, and no other.
+pub fn walks_answer_each_key_once()
+    ensures { WalksAnswerEachKeyOnce }
 {}

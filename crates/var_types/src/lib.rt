@@ -26,7 +26,10 @@ pub use bytes::Bytes;
 pub use call::{Call, GetCall, NextCall, SetCall};
 pub use guid::{Guid, NotAGuid};
 pub use key::Key;
-pub use laws::{changes_decide_the_state, stepped_sessions_are_legal};
+pub use laws::{
+    changes_decide_the_state, changes_keep_soundness, stepped_sessions_are_legal,
+    walks_answer_each_key_once,
+};
 pub use name::{NameFault, check_name};
 pub use out_of_memory::OutOfMemory;
 pub use policy::{Lock, Policy};

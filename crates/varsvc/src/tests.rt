@@ -58,7 +58,7 @@ fn words_are_refused(rt: HostRuntime) -> Result<(), Fail> {
 
 #[test]
 fn scripts_are_run(rt: HostRuntime) -> Result<(), Fail> {
-    let cases: [(&[u8], u8, &[u8]); 8] = [
+    let cases: [(&[u8], u8, &[u8]); 9] = [
         (b"", 0, b"history 0\nprocessor 0 calls 0\nend\n"),
         (
             b"0 set 8be4df61-93ca-11d2-aa0d-00e098032b8c BootCurrent 6 0100\n0 get 8be4df61-93ca-11d2-aa0d-00e098032b8c BootCurrent 16\n",
@@ -74,6 +74,11 @@ fn scripts_are_run(rt: HostRuntime) -> Result<(), Fail> {
             b"0 set 8be4df61-93ca-11d2-aa0d-00e098032b8c - 6 01\n0 set 8be4df61-93ca-11d2-aa0d-00e098032b8c A%0000B 6 01\n",
             0,
             b"history 0\nprocessor 0 calls 2\n0 0 - INVALID_PARAMETER name empty\n1 0 - INVALID_PARAMETER name nul 1\nend\n",
+        ),
+        (
+            b"# a walk over two GUIDs, and attributes that differ\n0 set 414e6bdd-e47b-47cc-b244-bb61020cf516 Z 6 01\n0 set 8be4df61-93ca-11d2-aa0d-00e098032b8c A 2 03\n0 next 8be4df61-93ca-11d2-aa0d-00e098032b8c - 64\n0 next 8be4df61-93ca-11d2-aa0d-00e098032b8c A 64\n0 next 414e6bdd-e47b-47cc-b244-bb61020cf516 Z 64\n0 next 8be4df61-93ca-11d2-aa0d-00e098032b8c - 3\n0 next 8be4df61-93ca-11d2-aa0d-00e098032b8c B 64\n0 set 8be4df61-93ca-11d2-aa0d-00e098032b8c A 6 03\n",
+            0,
+            b"history 2\n0 0 0 set 414e6bdd-e47b-47cc-b244-bb61020cf516 Z 0x00000006 01\n1 0 1 set 8be4df61-93ca-11d2-aa0d-00e098032b8c A 0x00000002 03\nprocessor 0 calls 8\n0 0 - SUCCESS\n1 1 - SUCCESS\n2 2 - SUCCESS 8be4df61-93ca-11d2-aa0d-00e098032b8c A\n3 2 - SUCCESS 414e6bdd-e47b-47cc-b244-bb61020cf516 Z\n4 2 - NOT_FOUND end\n5 2 - BUFFER_TOO_SMALL 4\n6 2 - INVALID_PARAMETER no-such\n7 2 - INVALID_PARAMETER attributes 0x00000002 0x00000006\nend\n",
         ),
         (b"# no call\n\n0 fly\n", 3, b"script line 3 verb\n"),
         (b"0 lock", 3, b"script line 1 later\n"),

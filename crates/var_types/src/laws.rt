@@ -1,5 +1,5 @@
-//! Laws of the definitions of sessions: each is the contract of a function that does nothing.
-ghost use Rattle.var_types.specs.Laws.{SteppedSessionsAreLegal, ChangesLeaveTheState, SameChangesLeaveTheSameState};
+//! Laws of the definitions: each is the contract of a function that does nothing.
+ghost use Rattle.var_types.specs.Laws.{SteppedSessionsAreLegal, ChangesLeaveTheState, SameChangesLeaveTheSameState, GuidsReadBack};
 
 /// A session that the one-thread service stepped is a legal one.
 pub fn stepped_sessions_are_legal()
@@ -10,4 +10,9 @@ pub fn stepped_sessions_are_legal()
 pub fn changes_decide_the_state()
     ensures run { ChangesLeaveTheState }
     ensures same { SameChangesLeaveTheSameState }
+{}
+
+/// The text of a GUID reads back as the GUID.
+pub fn guids_read_back()
+    ensures { GuidsReadBack }
 {}

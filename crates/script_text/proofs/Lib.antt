@@ -3,3 +3,8 @@ pub mod NameLemmas
 pub mod LineLemmas
 pub mod ScriptLemmas
 pub mod TextLemmas
+pub mod WordLemmas
+pub mod HexTexts
+pub mod NumberTexts
+pub mod NameTexts
+pub mod CallTexts

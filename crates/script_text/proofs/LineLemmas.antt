@@ -1,10 +1,14 @@
 -- The lines of a text, cut off one after the other.
-use Rattle.std.proofs.Common.{◌≡◌, ℕ, ◌+◌, ◌-◌, ◌<◌, ◌≤◌, Bool, true, false, cond, ltb, eqb, List, [], ◌∷◌, length, take, drop, position, Some, None, refl, sym, ap, ◌∙◌, inl, inr, arith}
+use Rattle.std.proofs.Common.{◌≡◌, ℕ, ◌+◌, ◌-◌, ◌<◌, ◌≤◌, Bool, true, false, cond, ltb, eqb, List, [], ◌∷◌, ◌++◌, length, All, slice_index, take, drop, position, Some, None, refl, sym, ap, ◌∙◌, inl, inr, arith}
 use Rattle.std.specs.List.{slice_split, onto_first, position_or_len}
 use Rattle.std.specs.Str.Lines.{lines, lines_of_parts, strip_carriage_return}
 use Rattle.std.proofs.lemmas.Bool.{cases_Bool, ltb-true, ltb-false, ne_eqb}
 use Rattle.std.proofs.lemmas.List.{take_all, length-drop}
-use Rattle.std.proofs.lemmas.List.Splits.{slice_split_first, length-slice_split}
+use Rattle.std.proofs.lemmas.Bool.Decides.{nat_tests}
+use Rattle.std.proofs.lemmas.List.Elements.{All-weaker}
+use Rattle.std.proofs.lemmas.List.Splits.{slice_split_at, slice_split_first, slice_split_none, length-slice_split}
+use Rattle.std.proofs.lemmas.List.Sums.{AllPass-from_list_all}
+use Rattle.script_text.specs.Lines.{is_text, is_text_byte}
 
 -- whether a byte is a line feed
 abbrev pub is_feed : ℕ → Bool
@@ -50,3 +54,33 @@ last_of_lines text none some =
     let past : length text ≤ position_or_len is_feed text = ltb-false _ _ (missing (ltb (position_or_len is_feed text) (length text)) (position_or_len is_feed text) none) in
     let longer : eqb (length text) 0 ≡ false = ne_eqb _ _ (λ e. omega arith) in
     ap lines_of_parts (one_part text past) ∙ rw longer refl
+
+-- a character of a line is no line feed and no carriage return
+no_feed : (c : ℕ) → is_text_byte c ≡ true → is_feed c ≡ false
+no_feed c h = grind (arith, nat_tests)
+
+no_return : (c : ℕ) → is_text_byte c ≡ true → eqb c 13 ≡ false
+no_return c h = grind (arith, nat_tests)
+
+-- a line has no line feed
+no_feeds : (line : List ℕ) → is_text line ≡ true → All (λ c. is_feed c ≡ false) line
+no_feeds line text = All-weaker (λ c. is_text_byte c ≡ true) (λ c. is_feed c ≡ false) no_feed line (AllPass-from_list_all is_text_byte line text)
+
+-- a text of a line's characters is one line
+pub lines-one_line : (line : List ℕ) → 0 < length line → is_text line ≡ true → lines line ≡ line ∷ []
+lines-one_line line some text =
+    let longer : eqb (length line) 0 ≡ false = ne_eqb _ _ (λ e. omega arith) in
+    ap lines_of_parts (slice_split_none is_feed line (no_feeds line text)) ∙ rw longer refl
+
+-- a line keeps its last character, which is no carriage return
+strip_none : (line : List ℕ) → 0 < length line → is_text line ≡ true → strip_carriage_return line ≡ line
+strip_none line some text =
+    let last : is_text_byte (slice_index line (length line - 1)) ≡ true = AllPass-from_list_all is_text_byte line text (length line - 1) 0 (omega arith) in
+    let other : eqb (slice_index line (length line - 1)) 13 ≡ false = no_return (slice_index line (length line - 1)) last in
+    rw other refl
+
+-- so is a text with one line feed, at its end
+pub lines-ended_line : (line : List ℕ) → 0 < length line → is_text line ≡ true → lines (line ++ 10 ∷ []) ≡ line ∷ []
+lines-ended_line line some text =
+    ap lines_of_parts (slice_split_at is_feed line 10 [] (no_feeds line text) refl)
+    ∙ ap (λ (first : List ℕ). first ∷ []) (strip_none line some text)

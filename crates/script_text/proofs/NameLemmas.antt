@@ -28,7 +28,8 @@ either_front : (b : Bool) (escaped : Option ℕ) (rest : List ℕ) (plain : Opti
 either_front true escaped rest plain cs = plain_front escaped rest
 either_front false escaped rest plain cs = plain_front plain cs
 
-units_of-cons : (c : ℕ) (cs : List ℕ) → units_of (c ∷ cs) ≡ units_by (first_unit (c ∷ cs))
+-- the units of some characters, by the first unit
+pub units_of-cons : (c : ℕ) (cs : List ℕ) → units_of (c ∷ cs) ≡ units_by (first_unit (c ∷ cs))
 unfolding units_of
 units_of-cons c [] = short c [] refl
 units_of-cons c (a ∷ []) = short c (a ∷ []) refl

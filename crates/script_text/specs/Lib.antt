@@ -10,3 +10,4 @@ pub mod Texts
 pub mod Appended
 pub mod Gives
 pub mod GivesLine
+pub mod ReadBack

@@ -2,6 +2,7 @@
 #![tactic(auto)]
 
 mod fault;
+mod laws;
 mod line_fault;
 mod lines;
 mod names;
@@ -13,6 +14,7 @@ mod verb;
 mod words;
 
 pub use fault::ScriptFault;
+pub use laws::calls_read_back;
 pub use reason::LineReason;
 pub use script::{Script, read_script};
 pub use text::write_call;

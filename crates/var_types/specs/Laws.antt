@@ -1,6 +1,8 @@
-use Rattle.std.specs.Prelude.{◌≡◌, List, [], ◌∷◌, map}
+use Rattle.std.specs.Prelude.{◌≡◌, List, [], ◌∷◌, map, Ok}
 use Rattle.var_types.specs.declared.answered.Answered.{Answered}
 use Rattle.var_types.specs.declared.call.Call.{Call}
+use Rattle.var_types.specs.declared.guid.Guid.{Guid}
+use Rattle.var_types.specs.Guid.{IsGuid, guid_of, guid_text}
 use Rattle.var_types.specs.History.{Entry, run}
 use Rattle.var_types.specs.Session.{AreStepped, IsLegalSession, history_of, state_after}
 use Rattle.var_types.specs.State.{State}
@@ -30,3 +32,7 @@ abbrev pub SameChangesLeaveTheSameState : Type 0
 SameChangesLeaveTheSameState =
     (state : State) (xs ys : List Answered) → AreStepped state xs → AreStepped state ys
     → changes_of (history_of xs) ≡ changes_of (history_of ys) → state_left state xs ≡ state_left state ys
+
+-- the text of a GUID reads back as the GUID
+abbrev pub GuidsReadBack : Type 0
+GuidsReadBack = (guid : Guid) → IsGuid guid → guid_of (guid_text guid) ≡ Ok guid

@@ -3,6 +3,10 @@ ghost use Rattle.std.specs.Prelude.{ℕ, []};
 ghost use Rattle.var_types.specs.Laws.{SteppedSessionsAreLegal, ChangesLeaveTheState, SameChangesLeaveTheSameState};
 ghost use Rattle.var_types.specs.State.{start};
 ghost use Rattle.var_types.specs.Walk.{IsSound, ChangesKeepSoundness, WalksAnswerEachKeyOnce};
+{}
+
+//! Laws of the definitions: each is the contract of a function that does nothing.
+ghost use Rattle.var_types.specs.Laws.{SteppedSessionsAreLegal, ChangesLeaveTheState, SameChangesLeaveTheSameState, GuidsReadBack};
 
 /// A session that the one-thread service stepped is a legal one.
 pub fn stepped_sessions_are_legal()
@@ -24,4 +28,9 @@ pub fn changes_keep_soundness()
 /// A walk from an empty name, with room for every name, answers each visible key once, in key order, and no other.
 pub fn walks_answer_each_key_once()
     ensures { WalksAnswerEachKeyOnce }
+{}
+
+/// The text of a GUID reads back as the GUID.
+pub fn guids_read_back()
+    ensures { GuidsReadBack }
 {}

@@ -27,7 +27,7 @@ pub use call::{Call, GetCall, NextCall, SetCall};
 pub use guid::{Guid, NotAGuid};
 pub use key::Key;
 pub use laws::{
-    changes_decide_the_state, changes_keep_soundness, stepped_sessions_are_legal,
+    changes_decide_the_state, changes_keep_soundness, guids_read_back, stepped_sessions_are_legal,
     walks_answer_each_key_once,
 };
 pub use name::{NameFault, check_name};

@@ -10,9 +10,9 @@ use Rattle.uuid.specs.Parts.{swap_fields}
 use Rattle.uuid.specs.Text.{lower, parsed}
 use Rattle.uuid.proofs.RoundTrips.{parses_hyphenated, swap_twice}
 use Rattle.var_types.specs.declared.guid.Guid.{Guid}
-use Rattle.var_types.specs.Guid.{guid_text}
+use Rattle.var_types.specs.Guid.{IsGuid, guid_text}
 use Rattle.script_text.specs.Texts.{attributes_text, bytes_text}
-use Rattle.varsvc.specs.Fitting.{AreBytes, IsGuid}
+use Rattle.varsvc.specs.Fitting.{AreBytes}
 
 -- the bytes of a list, also past its end
 IsBytes-from_all : (bytes : List ℕ) → AreBytes bytes → IsBytes bytes

@@ -2,7 +2,6 @@ use Rattle.std.specs.Prelude.{◌≡◌, ℕ, ◌^◌, ◌<◌, List, length, Al
 use Rattle.var_types.specs.declared.answered.Answered.{Answered}
 use Rattle.var_types.specs.declared.call.Call.{Call}
 use Rattle.var_types.specs.declared.call.Call.TheVariants as call
-use Rattle.var_types.specs.declared.guid.Guid.{Guid}
 use Rattle.var_types.specs.declared.name.NameFault.{NameFault}
 use Rattle.var_types.specs.declared.name.NameFault.TheVariants as fault
 use Rattle.var_types.specs.declared.reason.SetReason.{SetReason}
@@ -15,6 +14,7 @@ use Rattle.var_types.specs.declared.reply.Reply.{Reply}
 use Rattle.var_types.specs.declared.reply.Reply.TheVariants as reply
 use Rattle.var_types.specs.declared.reply.SetReply.{SetReply}
 use Rattle.var_types.specs.declared.reply.SetReply.TheVariants as set
+use Rattle.var_types.specs.Guid.{IsGuid}
 use Rattle.var_types.specs.Session.{calls_of}
 use Rattle.varsvc.specs.Report.{session_text}
 
@@ -36,9 +36,6 @@ AreBytes bytes = All (λ b. b < 2 ^ 8) bytes
 
 abbrev pub AreUnits : List ℕ → Type 0
 AreUnits units = All (λ u. u < 2 ^ 16) units
-
-abbrev pub IsGuid : Guid → Type 0
-IsGuid guid = (length guid.bytes ≡ 16) × AreBytes guid.bytes
 
 -- the parts of a reply are values of their types, as those of a program always are
 abbrev pub HasValuesOfGet : GetReply → Type 0

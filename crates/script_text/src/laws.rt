@@ -1,0 +1,8 @@
+//! A law of the texts: it is the contract of a function that does nothing.
+ghost use Rattle.script_text.specs.ReadBack.{CallsReadBack, EndedCallsReadBack};
+
+/// The line of a call reads back as the call.
+pub fn calls_read_back()
+    ensures line { CallsReadBack }
+    ensures ended { EndedCallsReadBack }
+{}

@@ -1,21 +1,19 @@
 -- The least key above a bound is that of the first entry of a range from the bound on.
 use Rattle.std.proofs.Common.{◌≡◌, Bool, true, false, List, [], ◌∷◌, refl, sym, ap, ◌∙◌}
+use Rattle.std.proofs.Math.Bool.{and-true}
+use Rattle.std.proofs.lemmas.List.Elements.{filter_agree}
 use Rattle.std.specs.BTreeMap.Range.{entries_between, range_contains}
 use Rattle.std.specs.List.{filter, find}
 use Rattle.std.specs.Option.{option_map}
 use Rattle.std.specs.Ordering.{is_lt}
-use Rattle.std.specs.Prelude.{Option, Some, None, cond, ◌&&◌}
+use Rattle.std.specs.Prelude.{Option, Some, None, cond}
 use Rattle.std.specs.declared.ops.Bound.TheVariants.{Unbounded}
 use Rattle.svc_plain.specs.Above.{start_above}
+use Rattle.var_types.proofs.Orders.{first_of}
 use Rattle.var_types.specs.Key.{key_cmp}
 use Rattle.var_types.specs.Next.{is_above}
 use Rattle.var_types.specs.declared.key.Key.{Key}
 use Rattle.var_types.specs.declared.variable.Variable.{Variable}
-
--- the first element, if there is one
-abbrev pub first_of : {X : Type 0} → List X → Option X
-first_of [] = None
-first_of (x ∷ xs) = Some x
 
 -- one element more, which the test may find
 find_case : {X : Type 0} (x : X) (found : Option X) (rest : List X) (b : Bool) → found ≡ first_of rest
@@ -28,11 +26,6 @@ pub find-filter : {X : Type 0} (p : X → Bool) (xs : List X) → find p xs ≡ 
 find-filter p [] = refl
 find-filter p (x ∷ xs) = find_case x (find p xs) (filter p xs) (p x) (find-filter p xs)
 
--- a test that nothing is added to
-and-true : (b : Bool) → (b && true) ≡ b
-and-true true = refl
-and-true false = refl
-
 -- a range with no end has the keys above its start
 contains-above : (bound : Option Key) (key : Key) → range_contains key_cmp (start_above bound) Unbounded key ≡ is_above bound key
 contains-above None key = refl
@@ -42,5 +35,6 @@ contains-above (Some b) key = and-true (is_lt (key_cmp b key))
 pub key_above-range : (bound : Option Key) (es : List (Key × Variable))
     → option_map (λ e. e.0) (find (λ e. is_above bound e.0) es) ≡ option_map (λ e. e.0) (first_of (entries_between key_cmp (start_above bound) Unbounded es))
 key_above-range bound es =
-    ap (option_map (λ e. e.0)) (find-filter (λ e. is_above bound e.0) es)
-    ∙ (λ i. option_map (λ e. e.0) (first_of (filter (λ e. sym (contains-above bound e.0) i) es)))
+    ap (option_map (λ e. e.0))
+    (find-filter (λ e. is_above bound e.0) es
+    ∙ ap first_of (filter_agree (λ e. is_above bound e.0) (λ e. range_contains key_cmp (start_above bound) Unbounded e.0) (λ e. sym (contains-above bound e.0)) es))

@@ -3,7 +3,8 @@ use Rattle.std.specs.BTreeMap.Range.{entries_between}
 use Rattle.std.specs.Option.{option_copied, option_map}
 use Rattle.std.specs.declared.ops.Bound.{Bound}
 use Rattle.std.specs.declared.ops.Bound.TheVariants.{Unbounded}
-use Rattle.svc_plain.proofs.Nexts.{first_of, key_above-range}
+use Rattle.svc_plain.proofs.Nexts.{key_above-range}
+use Rattle.var_types.proofs.Orders.{first_of}
 use Rattle.var_types.specs.Key.{key_cmp}
 use Rattle.var_types.specs.declared.key.Key.{Key}
 use Rattle.var_types.specs.declared.variable.Variable.{Variable}

@@ -1,12 +1,8 @@
-//! Laws of the definitions of sessions and walks: each is the contract of a function that does nothing.
+//! Laws of the definitions: each is the contract of a function that does nothing.
 ghost use Rattle.std.specs.Prelude.{ℕ, []};
-ghost use Rattle.var_types.specs.Laws.{SteppedSessionsAreLegal, ChangesLeaveTheState, SameChangesLeaveTheSameState};
+ghost use Rattle.var_types.specs.Laws.{SteppedSessionsAreLegal, ChangesLeaveTheState, SameChangesLeaveTheSameState, GuidsReadBack};
 ghost use Rattle.var_types.specs.State.{start};
 ghost use Rattle.var_types.specs.Walk.{IsSound, ChangesKeepSoundness, WalksAnswerEachKeyOnce};
-{}
-
-//! Laws of the definitions: each is the contract of a function that does nothing.
-ghost use Rattle.var_types.specs.Laws.{SteppedSessionsAreLegal, ChangesLeaveTheState, SameChangesLeaveTheSameState, GuidsReadBack};
 
 /// A session that the one-thread service stepped is a legal one.
 pub fn stepped_sessions_are_legal()

@@ -82,13 +82,15 @@ fn reads_each_form_of_a_guid(rt: HostRuntime) -> Result<(), Fail> {
     Ok(())
 }
 
-// That each of these lines is refused for a reason.
-fn refuses(rt: &HostRuntime, reason: LineReason, lines: &[&[u8]]) -> Result<(), Fail> {
+// Whether each of these lines is refused for a reason.
+fn refuses(rt: &HostRuntime, reason: LineReason, lines: &[&[u8]]) -> Result<bool, Fail> {
     for line in lines {
         let fault = read_script(rt.alloc(), &spelled(rt, line)?).err();
-        assert_eq!(rt; fault, Some(ScriptFault::Line { number: 1, reason }));
+        if fault != Some(ScriptFault::Line { number: 1, reason }) {
+            return Ok(false);
+        }
     }
-    Ok(())
+    Ok(true)
 }
 
 #[test]
@@ -142,7 +144,7 @@ fn refuses_a_line_by_its_form(rt: HostRuntime) -> Result<(), Fail> {
         ),
     ];
     for (reason, lines) in table {
-        refuses(&rt, reason, lines)?;
+        assert!(rt; refuses(&rt, reason, lines)?, "{reason:?}");
     }
     Ok(())
 }
@@ -185,7 +187,7 @@ fn refuses_a_line_by_a_word(rt: HostRuntime) -> Result<(), Fail> {
         ),
     ];
     for (reason, lines) in table {
-        refuses(&rt, reason, lines)?;
+        assert!(rt; refuses(&rt, reason, lines)?, "{reason:?}");
     }
     Ok(())
 }

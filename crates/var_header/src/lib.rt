@@ -3,6 +3,10 @@
 
 mod fault;
 mod header;
+mod laws;
+#[cfg(test)]
+mod tests;
 
 pub use fault::HeaderFault;
-pub use header::{Header, clear, read_header, write_header};
+pub use header::{HEADER_BYTES, Header, clear, read_header, write_header};
+pub use laws::headers_read_back;

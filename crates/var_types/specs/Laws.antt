@@ -1,7 +1,9 @@
-use Rattle.std.specs.Prelude.{◌≡◌, List, [], ◌∷◌, map}
+use Rattle.std.specs.Prelude.{◌≡◌, ℕ, List, [], ◌∷◌, map}
 use Rattle.var_types.specs.declared.answered.Answered.{Answered}
 use Rattle.var_types.specs.declared.call.Call.{Call}
+use Rattle.var_types.specs.declared.record.Record.{Record}
 use Rattle.var_types.specs.History.{Entry, run}
+use Rattle.var_types.specs.Record.{Form, HasRecords, records}
 use Rattle.var_types.specs.Session.{AreStepped, IsLegalSession, history_of, state_after}
 use Rattle.var_types.specs.State.{State}
 
@@ -30,3 +32,11 @@ abbrev pub SameChangesLeaveTheSameState : Type 0
 SameChangesLeaveTheSameState =
     (state : State) (xs ys : List Answered) → AreStepped state xs → AreStepped state ys
     → changes_of (history_of xs) ≡ changes_of (history_of ys) → state_left state xs ≡ state_left state ys
+
+-- any bytes have the list of records that a walk finds
+abbrev pub BytesHaveRecords : Type 0
+BytesHaveRecords = (form : Form) (bytes : List ℕ) (at : ℕ) → HasRecords form bytes at (records form bytes at)
+
+-- any bytes have no other list of records
+abbrev pub BytesHaveOneList : Type 0
+BytesHaveOneList = (form : Form) (bytes : List ℕ) (at : ℕ) (rs : List Record) → HasRecords form bytes at rs → rs ≡ records form bytes at

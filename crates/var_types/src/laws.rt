@@ -1,5 +1,5 @@
-//! Laws of the definitions of sessions: each is the contract of a function that does nothing.
-ghost use Rattle.var_types.specs.Laws.{SteppedSessionsAreLegal, ChangesLeaveTheState, SameChangesLeaveTheSameState};
+//! Laws of the definitions of sessions and of records: each is the contract of a function that does nothing.
+ghost use Rattle.var_types.specs.Laws.{SteppedSessionsAreLegal, ChangesLeaveTheState, SameChangesLeaveTheSameState, BytesHaveRecords, BytesHaveOneList};
 
 /// A session that the one-thread service stepped is a legal one.
 pub fn stepped_sessions_are_legal()
@@ -10,4 +10,10 @@ pub fn stepped_sessions_are_legal()
 pub fn changes_decide_the_state()
     ensures run { ChangesLeaveTheState }
     ensures same { SameChangesLeaveTheSameState }
+{}
+
+/// Any bytes have exactly one list of records.
+pub fn bytes_have_one_list_of_records()
+    ensures have { BytesHaveRecords }
+    ensures one { BytesHaveOneList }
 {}

@@ -25,7 +25,9 @@ pub use bytes::Bytes;
 pub use call::{Call, GetCall, NextCall, SetCall};
 pub use guid::{Guid, NotAGuid};
 pub use key::Key;
-pub use laws::{changes_decide_the_state, stepped_sessions_are_legal};
+pub use laws::{
+    bytes_have_one_list_of_records, changes_decide_the_state, stepped_sessions_are_legal,
+};
 pub use name::{NameFault, check_name};
 pub use out_of_memory::OutOfMemory;
 pub use policy::{Lock, Policy};

@@ -1,6 +1,16 @@
 //! A store's region as a value: its records one after the other, and the place behind them.
 #![tactic(auto)]
 
+mod laws;
 mod records;
+mod region;
+mod tail;
+#[cfg(test)]
+mod tests;
+mod walk;
 
+pub use laws::erased_regions_are_empty;
+pub use region::Region;
+pub use tail::Tail;
 pub use var_types::Record;
+pub use walk::Walk;

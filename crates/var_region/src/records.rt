@@ -49,14 +49,14 @@ pub fn record_at(bytes: &[u8], at: u32) -> Option<Record>
 }
 
 /// The place behind a record, where the next one stands.
-pub fn next_place(record: &Record) -> u32
-    requires { next_place Authenticated record.now < 2 ^ 32 }
-    ensures { result ≡ next_place Authenticated record.now }
+pub fn next_place(found: &Record) -> u32
+    requires { next_place Authenticated found.now < 2 ^ 32 }
+    ensures { result ≡ next_place Authenticated found.now }
 {
-    let size = if record.whole {
-        whole_size(&record.header)
+    let size = if found.whole {
+        whole_size(&found.header)
     } else {
         HEADER_BYTES as u64
     };
-    ((u64::from(record.at) + size + 3) / 4 * 4) as u32
+    ((u64::from(found.at) + size + 3) / 4 * 4) as u32
 }

@@ -1,7 +1,6 @@
-use Rattle.std.specs.Prelude.{ℕ, ◌+◌, ◌*◌, ◌%◌, ◌==◌, ◌&&◌, ◌||◌, not, Bool, true, false, List, [], ◌∷◌, take, drop, nat_le, if◌then◌else◌, Option, Some, None, find, reverse, Result, Ok, Err}
+use Rattle.std.specs.Prelude.{ℕ, ◌+◌, ◌*◌, ◌%◌, ◌==◌, ◌&&◌, ◌||◌, not, Bool, true, false, List, [], ◌∷◌, take, drop, if◌then◌else◌, Option, Some, None, find, reverse, Result, Ok, Err}
 use Rattle.std.specs.BTreeMap.{is_at}
 use Rattle.std.specs.Option.{option_map, option_or}
-use Rattle.var_header.specs.declared.header.Header.{Header}
 use Rattle.var_types.specs.declared.attributes.TheConstants.{NON_VOLATILE}
 use Rattle.var_types.specs.declared.key.Key.{Key}
 use Rattle.var_types.specs.declared.name.NameFault.{NameFault}

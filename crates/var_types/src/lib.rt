@@ -26,7 +26,8 @@ pub use call::{Call, GetCall, NextCall, SetCall};
 pub use guid::{Guid, NotAGuid};
 pub use key::Key;
 pub use laws::{
-    bytes_have_one_list_of_records, changes_decide_the_state, stepped_sessions_are_legal,
+    bytes_have_one_list_of_records, changes_decide_the_state, maps_hold_what_counts,
+    stepped_sessions_are_legal,
 };
 pub use name::{NameFault, check_name};
 pub use out_of_memory::OutOfMemory;

@@ -5,3 +5,4 @@ pub mod Records
 pub mod Entries
 pub mod Turns
 pub mod Maps
+pub mod Least

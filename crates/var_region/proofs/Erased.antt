@@ -1,5 +1,5 @@
 -- A region of erased bytes has no records.
-use Rattle.std.proofs.Common.{◌≡◌, ℕ, zero, suc, ◌+◌, ◌-◌, ◌<◌, ◌==◌, ◌&&◌, Bool, true, false, List, [], length, drop, get_or, refl, ap, ◌∙◌, arith, ltb, ltb-false, if◌then◌else◌, replicate, slice_index, None, Ok, Err}
+use Rattle.std.proofs.Common.{◌≡◌, ℕ, zero, suc, ◌+◌, ◌-◌, ◌<◌, ◌==◌, ◌&&◌, Bool, true, false, [], length, drop, refl, ap, ◌∙◌, arith, ltb, ltb-false, if◌then◌else◌, replicate, slice_index, None, Ok, Err}
 use Rattle.std.proofs.lemmas.List.{drop-replicate, get_or-drop, get_or-replicate, length-replicate}
 use Rattle.std.specs.List.{list_all}
 use Rattle.var_header.specs.declared.fault.HeaderFault.TheVariants.{NoStart, PastEnd}
@@ -7,7 +7,7 @@ use Rattle.var_header.specs.Header.{header_of, header_read, is_started}
 use Rattle.var_types.proofs.Records.{records_none}
 use Rattle.var_types.specs.Live.{lives}
 use Rattle.var_types.specs.Record.{Authenticated, Form, record_at, record_of, records, tail_from}
-use Rattle.var_types.specs.Region.{Area, area_lives, area_records, is_tail_clean, map_of, region_map, tail_place}
+use Rattle.var_types.specs.Region.{area_lives, area_records, is_tail_clean, map_of, region_map, tail_place}
 use Rattle.var_region.specs.Laws.{IsEmptyArea, erased_bytes}
 
 -- erased bytes begin with no start mark

@@ -1,6 +1,6 @@
 -- The least key above a bound: found among live records in one pass, it is the first such key of their map, and the entry that callers see next
 -- is that key's, or stands above it.
-use Rattle.std.proofs.Common.{◌≡◌, suc, Result, Ok, Err, Bool, true, false, cond, ◌&&◌, ◌||◌, ℕ, ◌+◌, ◌<◌, ◌≤◌, List, [], ◌∷◌, find, count_by, option_map, Option, Some, None, is_some, is_eq, is_lt, if◌then◌else◌, Ordering, Less, Equal, Greater, refl, sym, ap, subst, ◌∙◌, true≢false, arith}
+use Rattle.std.proofs.Common.{◌≡◌, suc, Ok, Err, Bool, true, false, cond, ◌&&◌, ◌||◌, ℕ, ◌<◌, ◌≤◌, List, [], ◌∷◌, find, option_map, Option, Some, None, is_some, is_eq, is_lt, if◌then◌else◌, Ordering, Less, Equal, Greater, refl, sym, ap, subst, ◌∙◌, true≢false, arith}
 use Rattle.std.proofs.lemmas.Bool.{or_right}
 use Rattle.std.proofs.lemmas.Cmp.{alike_right, tied_itself}
 use Rattle.std.proofs.lemmas.Map.Lookups.{CmpEqualImpliesEq}

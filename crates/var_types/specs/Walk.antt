@@ -1,4 +1,4 @@
-use Rattle.std.specs.Prelude.{◌≡◌, ℕ, ◌≤◌, List, [], ◌∷◌, map, filter, Ok, All}
+use Rattle.std.specs.Prelude.{◌≡◌, ℕ, ◌≤◌, List, [], ◌∷◌, filter, Ok, All}
 use Rattle.std.specs.List.Sorted.{IsStrictlySortedBy}
 use Rattle.std.specs.Map.{keys_of}
 use Rattle.var_types.specs.declared.guid.Guid.{Guid}
@@ -8,7 +8,7 @@ use Rattle.var_types.specs.History.{Entry, run}
 use Rattle.var_types.specs.Key.{key_cmp}
 use Rattle.var_types.specs.Name.{name_check}
 use Rattle.var_types.specs.Next.{next_reply, is_seen}
-use Rattle.var_types.specs.State.{State, start}
+use Rattle.var_types.specs.State.{State}
 
 -- the keys that callers see, in key order (UEFI 2.10, 8.2.2)
 abbrev pub visible_keys : State → List Key

@@ -5,3 +5,8 @@ pub mod Orders
 pub mod Soundness
 pub mod Walks
 pub mod Guids
+pub mod Records
+pub mod Entries
+pub mod Turns
+pub mod Maps
+pub mod Least

@@ -13,3 +13,6 @@ pub mod History
 pub mod Session
 pub mod Laws
 pub mod Walk
+pub mod Record
+pub mod Live
+pub mod Region

@@ -1,6 +1,7 @@
 //! Laws of the definitions: each is the contract of a function that does nothing.
 ghost use Rattle.std.specs.Prelude.{ℕ, []};
 ghost use Rattle.var_types.specs.Laws.{SteppedSessionsAreLegal, ChangesLeaveTheState, SameChangesLeaveTheSameState, GuidsReadBack};
+ghost use Rattle.var_types.specs.Laws.{BytesHaveRecords, BytesHaveOneList, MapsStandInKeyOrder, MapsHoldWhatCounts, WhatCountsDecidesTheMap};
 ghost use Rattle.var_types.specs.State.{start};
 ghost use Rattle.var_types.specs.Walk.{IsSound, ChangesKeepSoundness, WalksAnswerEachKeyOnce};
 
@@ -29,4 +30,17 @@ pub fn walks_answer_each_key_once()
 /// The text of a GUID reads back as the GUID.
 pub fn guids_read_back()
     ensures { GuidsReadBack }
+{}
+
+/// Any bytes have exactly one list of records.
+pub fn bytes_have_one_list_of_records()
+    ensures have { BytesHaveRecords }
+    ensures one { BytesHaveOneList }
+{}
+
+/// A map of live records stands in key order and holds what counts for each key, so it depends on nothing else of a region.
+pub fn maps_hold_what_counts()
+    ensures ordered { MapsStandInKeyOrder }
+    ensures holds { MapsHoldWhatCounts }
+    ensures same { WhatCountsDecidesTheMap }
 {}

@@ -12,6 +12,7 @@ mod name;
 mod out_of_memory;
 mod policy;
 mod reason;
+mod record;
 mod reply;
 mod stamp;
 mod store;
@@ -27,13 +28,14 @@ pub use call::{Call, GetCall, NextCall, SetCall};
 pub use guid::{Guid, NotAGuid};
 pub use key::Key;
 pub use laws::{
-    changes_decide_the_state, changes_keep_soundness, guids_read_back, stepped_sessions_are_legal,
-    walks_answer_each_key_once,
+    bytes_have_one_list_of_records, changes_decide_the_state, changes_keep_soundness,
+    guids_read_back, maps_hold_what_counts, stepped_sessions_are_legal, walks_answer_each_key_once,
 };
 pub use name::{NameFault, check_name};
 pub use out_of_memory::OutOfMemory;
 pub use policy::{Lock, Policy};
 pub use reason::SetReason;
+pub use record::Record;
 pub use reply::{GetReply, NextReply, Reply, SetReply};
 pub use stamp::Stamp;
 pub use store::Store;

@@ -1,0 +1,16 @@
+use Rattle.std.specs.Prelude.{ℕ, ◌==◌, Bool, List, [], ◌∷◌, Option, Some, None}
+use denote.Ref.{Bor}
+use Rattle.var_types.specs.Live.{units_in}
+
+-- the units of a first one and the bytes behind it
+abbrev pub first_units : Option (ℕ × Bor (List ℕ)) → List ℕ
+first_units None = []
+first_units (Some first) = first.0 ∷ units_in first.1.now
+
+-- the units of bytes that were lent
+abbrev pub lent_units : Bor (List ℕ) → List ℕ
+lent_units bytes = units_in bytes.now
+
+-- whether a unit is a NUL
+abbrev pub is_nul : ℕ → Bool
+is_nul unit = unit == 0

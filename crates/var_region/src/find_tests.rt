@@ -1,0 +1,251 @@
+use crate::{Found, Region};
+use std::alloc::{AllocError, Global};
+use std::test::Fail;
+use var_header::{Header, write_header};
+use var_types::{Guid, Stamp};
+
+const ADDED: u8 = 0x3F;
+
+const IN_TRANSITION: u8 = 0x3E;
+
+// Where the first record stands.
+const FIRST: u32 = 28;
+
+// A record of a region: its state, its attributes, the first byte of its GUID (the others are 0), its name's bytes with the NUL, and its data.
+struct Part(u8, u32, u8, &'static [u8], &'static [u8]);
+
+fn guid(first: u8) -> Guid {
+    let mut bytes = [0; 16];
+    bytes[0] = first;
+    Guid { bytes }
+}
+
+fn size_of(bytes: &[u8]) -> u32 {
+    u32::try_from(bytes.len()).unwrap_or(u32::MAX)
+}
+
+fn push(bytes: &mut Vec<u8>, part: &Part) -> Result<(), AllocError> {
+    let header = Header {
+        state: part.0,
+        attributes: part.1,
+        stamp: [9; 16],
+        name_size: size_of(part.3),
+        data_size: size_of(part.4),
+        guid: guid(part.2).bytes,
+    };
+    let mut written = [0; 60];
+    write_header(&header, &mut written);
+    bytes.extend_from_slice(&written)?;
+    bytes.extend_from_slice(part.3)?;
+    bytes.extend_from_slice(part.4)?;
+    if bytes.len() % 4 != 0 {
+        bytes.extend_from_slice(&[0xFF; 4][bytes.len() % 4..])?;
+    }
+    Ok(())
+}
+
+// The bytes of a region of these records.
+fn region_bytes(alloc: Global, parts: &[Part]) -> Result<Vec<u8>, AllocError> {
+    let mut bytes = Vec::new(alloc);
+    bytes.extend_from_slice(&[0; 28])?;
+    for part in parts {
+        push(&mut bytes, part)?;
+    }
+    bytes.extend_from_slice(&[0xFF; 100])?;
+    Ok(bytes)
+}
+
+fn over(bytes: &[u8], non_volatile: bool) -> Option<Region> {
+    if FIRST as usize <= bytes.len() && bytes.len() <= 65536 {
+        Some(Region::over(bytes, FIRST, non_volatile))
+    } else {
+        None
+    }
+}
+
+fn first_byte(found: Option<Found>) -> Option<u8> {
+    found.and_then(|found| found.payload.first().copied())
+}
+
+// What a search for the name A under the GUID 1 finds, by the first byte of its data.
+struct Search {
+    parts: &'static [Part],
+    non_volatile: bool,
+    found: Option<u8>,
+    why: &'static str,
+}
+
+const NAME: &[u8] = &[0x41, 0, 0, 0];
+
+const SEARCHES: [Search; 14] = [
+    Search {
+        parts: &[Part(ADDED, 7, 1, NAME, &[1]), Part(ADDED, 7, 1, NAME, &[2])],
+        non_volatile: true,
+        found: Some(1),
+        why: "the first of two that are ADDED",
+    },
+    Search {
+        parts: &[
+            Part(IN_TRANSITION, 7, 1, NAME, &[1]),
+            Part(IN_TRANSITION, 7, 1, NAME, &[2]),
+        ],
+        non_volatile: true,
+        found: Some(2),
+        why: "the last of two in transition",
+    },
+    Search {
+        parts: &[
+            Part(IN_TRANSITION, 7, 1, NAME, &[1]),
+            Part(ADDED, 7, 1, NAME, &[2]),
+        ],
+        non_volatile: true,
+        found: Some(2),
+        why: "an ADDED one behind one in transition",
+    },
+    Search {
+        parts: &[
+            Part(ADDED, 7, 1, NAME, &[1]),
+            Part(IN_TRANSITION, 7, 1, NAME, &[2]),
+        ],
+        non_volatile: true,
+        found: Some(1),
+        why: "an ADDED one before one in transition",
+    },
+    Search {
+        parts: &[
+            Part(0x3D, 7, 1, NAME, &[1]),
+            Part(0x3C, 7, 1, NAME, &[2]),
+            Part(0x7F, 7, 1, NAME, &[3]),
+        ],
+        non_volatile: true,
+        found: None,
+        why: "deleted, or only its header valid",
+    },
+    Search {
+        parts: &[Part(ADDED, 7, 1, &[0x41, 0, 0, 0, 0], &[1])],
+        non_volatile: true,
+        found: None,
+        why: "a name of 5 bytes",
+    },
+    Search {
+        parts: &[Part(ADDED, 7, 1, &[0x41, 0, 0, 0, 0x42, 0, 0, 0], &[1])],
+        non_volatile: true,
+        found: None,
+        why: "a NUL within the name",
+    },
+    Search {
+        parts: &[Part(ADDED, 7, 1, &[0x41, 0], &[1])],
+        non_volatile: true,
+        found: None,
+        why: "a name without NUL",
+    },
+    Search {
+        parts: &[Part(ADDED, 6, 1, NAME, &[1]), Part(ADDED, 7, 1, NAME, &[2])],
+        non_volatile: true,
+        found: Some(2),
+        why: "a volatile one in the non-volatile store is passed over",
+    },
+    Search {
+        parts: &[Part(ADDED, 6, 1, NAME, &[1]), Part(ADDED, 7, 1, NAME, &[2])],
+        non_volatile: false,
+        found: Some(1),
+        why: "a volatile one in the other store",
+    },
+    Search {
+        parts: &[Part(ADDED, 7, 2, NAME, &[1])],
+        non_volatile: true,
+        found: None,
+        why: "another GUID",
+    },
+    Search {
+        parts: &[Part(ADDED, 7, 1, &[0x41, 0, 0x41, 0, 0, 0], &[1])],
+        non_volatile: true,
+        found: None,
+        why: "a longer name",
+    },
+    Search {
+        parts: &[Part(ADDED, 7, 1, &[0x41, 1, 0, 0], &[1])],
+        non_volatile: true,
+        found: None,
+        why: "a unit with another high byte",
+    },
+    Search {
+        parts: &[],
+        non_volatile: true,
+        found: None,
+        why: "no records",
+    },
+];
+
+#[test]
+fn the_record_that_counts_is_found(rt: HostRuntime) -> Result<(), Fail> {
+    let alloc = rt.alloc();
+    for search in &SEARCHES {
+        let bytes = region_bytes(alloc, search.parts)?;
+        let region = over(&bytes, search.non_volatile).expect(&rt, "the first record is within");
+        let found = first_byte(region.find(&guid(1), &[0x41]));
+        assert_eq!(rt; found, search.found, "{}", search.why);
+    }
+    Ok(())
+}
+
+#[test]
+fn a_record_is_lent_field_by_field(rt: HostRuntime) -> Result<(), Fail> {
+    let bytes = region_bytes(
+        rt.alloc(),
+        &[
+            Part(ADDED, 3, 2, NAME, &[1, 2, 3]),
+            Part(ADDED, 7, 1, &[0x42, 0, 0x43, 1, 0, 0], &[4, 5]),
+        ],
+    )?;
+    let region = over(&bytes, true).expect(&rt, "the first record is within");
+    let found = region
+        .find(&guid(1), &[0x42, 0x143])
+        .expect(&rt, "it is there");
+    assert_eq!(rt; found.at, 96);
+    assert_eq!(rt; found.guid, guid(1));
+    assert_eq!(rt; found.attributes, 7);
+    assert_eq!(rt; found.stamp, Stamp { bytes: [9; 16] });
+    assert_eq!(rt; found.name, [0x42, 0, 0x43, 1].as_slice());
+    assert_eq!(rt; found.payload, [4, 5].as_slice());
+    Ok(())
+}
+
+// The keys of two GUIDs, not in key order: by the GUID 1 the names A, AA, B and Ā, of which A and Ā are hidden at runtime, since the record that
+// counts has no runtime access; by the GUID 2 the name A.
+const KEYS: [Part; 7] = [
+    Part(ADDED, 7, 2, NAME, &[50]),
+    Part(ADDED, 7, 1, &[0x42, 0, 0, 0], &[30]),
+    Part(IN_TRANSITION, 7, 1, &[0, 1, 0, 0], &[41]),
+    Part(ADDED, 3, 1, NAME, &[10]),
+    Part(ADDED, 7, 1, &[0x41, 0, 0x41, 0, 0, 0], &[20]),
+    Part(ADDED, 3, 1, &[0, 1, 0, 0], &[40]),
+    Part(0x3D, 7, 1, &[0x43, 0, 0, 0], &[35]),
+];
+
+// The GUID and the name that come before, whether the phase is runtime, and the first byte of the data found above them.
+const STEPS: [(u8, &[u16], bool, Option<u8>); 12] = [
+    (9, &[], false, Some(10)),
+    (1, &[0x41], false, Some(20)),
+    (1, &[0x41, 0x41], false, Some(30)),
+    (1, &[0x42], false, Some(40)),
+    (1, &[0x100], false, Some(50)),
+    (2, &[0x41], false, None),
+    (9, &[], true, Some(20)),
+    (1, &[0x41, 0x41], true, Some(30)),
+    (1, &[0x42], true, Some(50)),
+    (2, &[0x41], true, None),
+    (1, &[0x41, 0x40], false, Some(20)),
+    (0, &[0x7F], true, Some(20)),
+];
+
+#[test]
+fn keys_follow_in_order(rt: HostRuntime) -> Result<(), Fail> {
+    let bytes = region_bytes(rt.alloc(), &KEYS)?;
+    let region = over(&bytes, true).expect(&rt, "the first record is within");
+    for (step, (first, name, runtime, want)) in STEPS.iter().enumerate() {
+        let found = first_byte(region.above(&guid(*first), name, *runtime));
+        assert_eq!(rt; found, *want, "step {step}");
+    }
+    Ok(())
+}

@@ -1,0 +1,90 @@
+ghost use Rattle.std.specs.Prelude.{◌≡◌, ◌+◌, ◌≤◌, Some, IfSome, length};
+ghost use Rattle.std.specs.Option.{option_map};
+ghost use Rattle.var_types.specs.Key.{key_of};
+ghost use Rattle.var_types.specs.Live.{chosen};
+ghost use Rattle.var_types.specs.Record.{Authenticated};
+ghost use Rattle.var_types.specs.Region.{area_lives, area_records, entry_above, is_tail_clean, tail_place};
+ghost use Rattle.var_region.specs.Found.{seen, seen_entry, seen_key};
+ghost use Rattle.var_region.specs.Wanted.{bound_of};
+
+use crate::above::{above, bound_of};
+use crate::find::find_from;
+use crate::found::Found;
+use crate::tail::{Tail, tail_of};
+use crate::walk::Walk;
+use std::marker::Model;
+use var_types::Guid;
+
+/// A store's region: its bytes, the place of its first record, and whether it is the non-volatile store's.
+#[derive(Debug, Drop)]
+pub struct Region<'a> {
+    bytes: &'a [u8],
+    first: u32,
+    non_volatile: bool,
+}
+
+impl<'a> Model for Region<'a> {
+    ghost use Rattle.std.specs.Prelude.{length, ◌≤◌};
+    ghost use Rattle.var_types.specs.Record.{Authenticated};
+    ghost use Rattle.var_types.specs.Region.{Area};
+
+    ghost Value = { Area };
+
+    ghost view = { λ r. record { form = Authenticated; bytes = r.bytes.now; first = r.first; non_volatile = r.non_volatile } };
+
+    ghost invariant = { λ r. (r.first ≤ length r.bytes.now) × (length r.bytes.now ≤ 65536) };
+}
+
+impl<'a> Region<'a> {
+    /// The region that some bytes are, whose records begin at a place.
+    pub fn over(bytes: &'a [u8], first: u32, non_volatile: bool) -> Region<'a>
+        requires first { first ≤ length bytes.now }
+        requires few { length bytes.now ≤ 65536 }
+        ensures { result ≡ record { form = Authenticated; bytes = bytes.now; first = first; non_volatile = non_volatile } }
+    {
+        Region {
+            bytes,
+            first,
+            non_volatile,
+        }
+    }
+
+    /// A walk over the records.
+    #[tactic(auto, unfolding(var_types::specs::Region::area_records))]
+    pub fn walk(&self) -> Walk<'a>
+        ensures { result ≡ area_records self.now }
+    {
+        Walk {
+            bytes: self.bytes,
+            at: self.first,
+        }
+    }
+
+    /// The place behind the records, at most 3 past the end, and whether all bytes from there on are erased.
+    #[tactic(auto, unfolding(var_types::specs::Region::area_records, var_types::specs::Region::tail_place, var_types::specs::Region::is_tail_clean))]
+    pub fn tail(&self) -> Tail
+        ensures place { result.at ≡ tail_place self.now }
+        ensures clean { result.clean ≡ is_tail_clean self.now }
+        ensures limit { result.at ≤ length self.now.bytes + 3 }
+    {
+        tail_of(self.bytes, self.first)
+    }
+
+    /// The record that counts for a key: its first ADDED one, else its last in transition to deleted.
+    #[tactic(auto, unfolding(var_types::specs::Region::area_records, var_types::specs::Region::area_lives, crate::specs::Searched::lives_at))]
+    pub fn find(&self, guid: &Guid, name: &[u16]) -> Option<Found<'a>>
+        ensures { option_map seen result ≡ chosen (key_of guid.now name.now) (area_lives self.now) }
+    {
+        find_from(self.non_volatile, self.bytes, self.first, guid, name)
+    }
+
+    /// The record that counts for the least key that callers see: strictly above a key, or of all where the name is empty.
+    #[tactic(auto, unfolding(var_types::specs::Region::area_records, var_types::specs::Region::area_lives, var_types::specs::Region::entry_above, var_types::specs::Region::region_map, crate::specs::Searched::lives_at))]
+    pub fn above(&self, guid: &Guid, name: &[u16], runtime: bool) -> Option<Found<'a>>
+        ensures entry { option_map seen_entry result ≡ entry_above self.now runtime (bound_of guid.now name.now) }
+        ensures counts { IfSome result (λ f. chosen (seen_key f) (area_lives self.now) ≡ Some (seen f)) }
+    {
+        let bound = bound_of(guid, name);
+        above(self.non_volatile, self.bytes, self.first, &bound, runtime)
+    }
+}

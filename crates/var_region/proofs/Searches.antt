@@ -1,14 +1,20 @@
 -- What a search finds from a place on, record by record.
-use Rattle.std.proofs.Common.{cond, ◌≡◌, ℕ, ◌<◌, sym, arith, Bool, List, [], Option, Some, None, refl, ap, ◌∙◌}
+use Rattle.std.proofs.Common.{cond, ◌≡◌, ℕ, ◌<◌, sym, arith, Bool, List, [], Option, Some, None, refl, ap, ◌∙◌, option_map}
+use Rattle.std.specs.BTreeMap.{is_at}
+use Rattle.std.specs.Map.{lookup}
 use Rattle.var_types.proofs.Records.{records_first, records_none}
 use Rattle.var_types.proofs.Least.{chosen_key, is_shown, shown_or, fewer_above_least, least_from, shown_above, shown_above-least, shown_from}
-use Rattle.var_types.proofs.Maps.{variable_of}
+use Rattle.var_types.proofs.Maps.{map_exact, variable_of}
 use Rattle.var_types.proofs.Turns.{after_turn, chosen_from, chosen_from-none, turn_of}
 use Rattle.var_types.specs.declared.key.Key.{Key}
 use Rattle.var_types.specs.declared.record.Record.{Record}
 use Rattle.var_types.specs.declared.variable.Variable.{Variable}
 use Rattle.var_types.specs.Live.{Live, chosen, live_of, lives, with_live}
+use Rattle.var_types.specs.Key.{key_cmp}
 use Rattle.var_types.specs.Record.{Authenticated, next_place, record_at}
+use Rattle.var_types.specs.Region.{Area, area_lives, region_map}
+use Rattle.var_region.specs.declared.found.Found.{Found}
+use Rattle.var_region.specs.Found.{seen, seen_variable}
 use Rattle.var_region.specs.Searched.{keys_left, least_at, lives_at, lowered, sought}
 
 module _ (non_volatile : Bool) (bytes : List ℕ) where
@@ -95,3 +101,13 @@ module _ (runtime : Bool) (key : Key) (ls : List (Bool × Live)) where
   -- a record that counts for a key counts for its own
   pub own_counts : (live : Live) → Some live ≡ chosen key ls → chosen live.key ls ≡ Some live
   own_counts live e = ap (λ k. chosen k ls) (chosen_key key ls live (sym e)) ∙ sym e
+
+-- the variable of the record that counts for a key is the map's
+pub found_in_map : (area : Area) (key : Key) (found : Option Found) → option_map seen found ≡ chosen key (area_lives area)
+    → option_map seen_variable found ≡ lookup (is_at (key_cmp key)) (region_map area)
+unfolding region_map
+found_in_map area key found e = by found ∙ ap variable_of e ∙ sym ((map_exact (area_lives area)).holds key)
+  where
+    by : (o : Option Found) → option_map seen_variable o ≡ variable_of (option_map seen o)
+    by None = refl
+    by (Some f) = refl

@@ -17,9 +17,12 @@ seen f = record {
 abbrev pub offered : Offer → Bool × Live
 offered offer = (offer.added, seen offer.found)
 
--- the key of a live record that was found, and its entry in the map
+-- the key and the variable of a live record that was found, and its entry in the map
 abbrev pub seen_key : Found → Key
 seen_key f = (seen f).key
+
+abbrev pub seen_variable : Found → Variable
+seen_variable f = (seen f).variable
 
 abbrev pub seen_entry : Found → Key × Variable
 seen_entry f = ((seen f).key, (seen f).variable)

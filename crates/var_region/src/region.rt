@@ -1,10 +1,12 @@
 ghost use Rattle.std.specs.Prelude.{◌≡◌, ◌+◌, ◌≤◌, Some, IfSome, length};
+ghost use Rattle.std.specs.BTreeMap.{is_at};
+ghost use Rattle.std.specs.Map.{lookup};
 ghost use Rattle.std.specs.Option.{option_map};
-ghost use Rattle.var_types.specs.Key.{key_of};
+ghost use Rattle.var_types.specs.Key.{key_cmp, key_of};
 ghost use Rattle.var_types.specs.Live.{chosen};
 ghost use Rattle.var_types.specs.Record.{Authenticated};
-ghost use Rattle.var_types.specs.Region.{area_lives, area_records, entry_above, is_tail_clean, tail_place};
-ghost use Rattle.var_region.specs.Found.{seen, seen_entry, seen_key};
+ghost use Rattle.var_types.specs.Region.{area_lives, area_records, entry_above, is_tail_clean, region_map, tail_place};
+ghost use Rattle.var_region.specs.Found.{seen, seen_entry, seen_key, seen_variable};
 ghost use Rattle.var_region.specs.Wanted.{bound_of};
 
 use crate::above::{above, bound_of};
@@ -71,9 +73,10 @@ impl<'a> Region<'a> {
     }
 
     /// The record that counts for a key: its first ADDED one, else its last in transition to deleted.
-    #[tactic(auto, unfolding(var_types::specs::Region::area_records, var_types::specs::Region::area_lives, crate::specs::Searched::lives_at))]
+    #[tactic(auto, unfolding(var_types::specs::Region::area_records, var_types::specs::Region::area_lives, crate::specs::Searched::lives_at), using(crate::proofs::Searches::found_in_map))]
     pub fn find(&self, guid: &Guid, name: &[u16]) -> Option<Found<'a>>
-        ensures { option_map seen result ≡ chosen (key_of guid.now name.now) (area_lives self.now) }
+        ensures record { option_map seen result ≡ chosen (key_of guid.now name.now) (area_lives self.now) }
+        ensures variable { option_map seen_variable result ≡ lookup (is_at (key_cmp (key_of guid.now name.now))) (region_map self.now) }
     {
         find_from(self.non_volatile, self.bytes, self.first, guid, name)
     }

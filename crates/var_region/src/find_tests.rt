@@ -25,13 +25,15 @@ fn size_of(bytes: &[u8]) -> u32 {
 }
 
 fn push(bytes: &mut Vec<u8>, part: &Part) -> Result<(), AllocError> {
+    let owner = guid(part.2);
+    let owner = owner.bytes;
     let header = Header {
         state: part.0,
         attributes: part.1,
         stamp: [9; 16],
         name_size: size_of(part.3),
         data_size: size_of(part.4),
-        guid: guid(part.2).bytes,
+        guid: owner,
     };
     let mut written = [0; 60];
     write_header(&header, &mut written);

@@ -29,47 +29,47 @@ pub(crate) struct Offer<'a> {
     pub(crate) found: Found<'a>,
 }
 
-fn name_bytes<'a>(bytes: &'a [u8], record: &Record) -> &'a [u8]
-    requires { record.now.at + whole_size Authenticated record.now.header ≤ length bytes.now }
-    ensures is { result.now ≡ name_bytes Authenticated bytes.now record.now }
-    ensures size { length result.now ≡ record.now.header.name_size }
+fn name_bytes<'a>(bytes: &'a [u8], held: &Record) -> &'a [u8]
+    requires { held.now.at + whole_size Authenticated held.now.header ≤ length bytes.now }
+    ensures is { result.now ≡ name_bytes Authenticated bytes.now held.now }
+    ensures size { length result.now ≡ held.now.header.name_size }
 {
-    let from = record.at as usize + HEADER_BYTES;
-    &bytes[from..][..record.header.name_size as usize]
+    let from = held.at as usize + HEADER_BYTES;
+    &bytes[from..][..held.header.name_size as usize]
 }
 
-fn data_bytes<'a>(bytes: &'a [u8], record: &Record) -> &'a [u8]
-    requires { record.now.at + whole_size Authenticated record.now.header ≤ length bytes.now }
-    ensures { result.now ≡ data_bytes Authenticated bytes.now record.now }
+fn data_bytes<'a>(bytes: &'a [u8], held: &Record) -> &'a [u8]
+    requires { held.now.at + whole_size Authenticated held.now.header ≤ length bytes.now }
+    ensures { result.now ≡ data_bytes Authenticated bytes.now held.now }
 {
-    let from = record.at as usize + HEADER_BYTES + record.header.name_size as usize;
-    &bytes[from..][..record.header.data_size as usize]
+    let from = held.at as usize + HEADER_BYTES + held.header.name_size as usize;
+    &bytes[from..][..held.header.data_size as usize]
 }
 
 fn offer_named<'a>(
     bytes: &'a [u8],
-    record: &Record,
+    held: &Record,
     added: bool,
     name: Option<&'a [u8]>,
 ) -> Option<Offer<'a>>
-    requires { record.now.at + whole_size Authenticated record.now.header ≤ length bytes.now }
+    requires { held.now.at + whole_size Authenticated held.now.header ≤ length bytes.now }
     ensures { option_map offered result
-        ≡ live_named Authenticated bytes.now record.now added (option_map lent_units name.entry) }
+        ≡ live_named Authenticated bytes.now held.now added (option_map lent_units name.entry) }
 {
     let name = name?;
     Some(Offer {
         added,
         found: Found {
-            at: record.at,
+            at: held.at,
             guid: Guid {
-                bytes: record.header.guid,
+                bytes: held.header.guid,
             },
-            attributes: record.header.attributes,
+            attributes: held.header.attributes,
             stamp: Stamp {
-                bytes: record.header.stamp,
+                bytes: held.header.stamp,
             },
             name,
-            payload: data_bytes(bytes, record),
+            payload: data_bytes(bytes, held),
         },
     })
 }
@@ -84,31 +84,27 @@ fn standing(state: u8) -> Option<bool>
     }
 }
 
-fn offer_standing<'a>(bytes: &'a [u8], record: &Record) -> Option<Offer<'a>>
-    requires { record.now.at + whole_size Authenticated record.now.header ≤ length bytes.now }
+fn offer_standing<'a>(bytes: &'a [u8], held: &Record) -> Option<Offer<'a>>
+    requires { held.now.at + whole_size Authenticated held.now.header ≤ length bytes.now }
     ensures { option_map offered result
-        ≡ live_standing Authenticated bytes.now record.now (standing record.now.header.state) }
+        ≡ live_standing Authenticated bytes.now held.now (standing held.now.header.state) }
 {
-    let added = standing(record.header.state)?;
-    let name = name_of(name_bytes(bytes, record));
-    offer_named(bytes, record, added, name)
+    let added = standing(held.header.state)?;
+    let name = name_of(name_bytes(bytes, held));
+    offer_named(bytes, held, added, name)
 }
 
 /// What a record holds, if it is a variable's, in a store that is the non-volatile one or not.
 #[tactic(auto, unfolding(var_types::specs::Live::live_of))]
-pub(crate) fn offer_of<'a>(
-    non_volatile: bool,
-    bytes: &'a [u8],
-    record: &Record,
-) -> Option<Offer<'a>>
-    requires { record.now.whole ≡ true → record.now.at + whole_size Authenticated record.now.header ≤ length bytes.now }
-    ensures { option_map offered result ≡ live_of Authenticated non_volatile bytes.now record.now }
+pub(crate) fn offer_of<'a>(non_volatile: bool, bytes: &'a [u8], held: &Record) -> Option<Offer<'a>>
+    requires { held.now.whole ≡ true → held.now.at + whole_size Authenticated held.now.header ≤ length bytes.now }
+    ensures { option_map offered result ≡ live_of Authenticated non_volatile bytes.now held.now }
 {
-    if !record.whole {
+    if !held.whole {
         return None;
     }
-    if non_volatile && record.header.attributes & NON_VOLATILE == 0 {
+    if non_volatile && held.header.attributes & NON_VOLATILE == 0 {
         return None;
     }
-    offer_standing(bytes, record)
+    offer_standing(bytes, held)
 }

@@ -75,7 +75,7 @@ impl<'a> Region<'a> {
     /// The record that counts for a key: its first ADDED one, else its last in transition to deleted.
     #[tactic(auto, unfolding(var_types::specs::Region::area_records, var_types::specs::Region::area_lives, crate::specs::Searched::lives_at), using(crate::proofs::Searches::found_in_map))]
     pub fn find(&self, guid: &Guid, name: &[u16]) -> Option<Found<'a>>
-        ensures record { option_map seen result ≡ chosen (key_of guid.now name.now) (area_lives self.now) }
+        ensures counts { option_map seen result ≡ chosen (key_of guid.now name.now) (area_lives self.now) }
         ensures variable { option_map seen_variable result ≡ lookup (is_at (key_cmp (key_of guid.now name.now))) (region_map self.now) }
     {
         find_from(self.non_volatile, self.bytes, self.first, guid, name)

@@ -8,9 +8,7 @@ ghost use Rattle.var_types.specs.Live.{before_nul, name_in, units_in, well_forme
 ghost use Rattle.var_region.specs.Names.{first_units, is_nul, lent_units};
 
 use std::cmp::Ordering;
-
-/// How many units a well-formed name may have.
-const LONGEST_NAME: usize = 512;
+use var_types::LONGEST_NAME;
 
 fn unit_of(low: u8, high: u8) -> u16
     ensures { result ≡ low + 256 * high }

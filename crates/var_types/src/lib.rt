@@ -31,7 +31,7 @@ pub use laws::{
     bytes_have_one_list_of_records, changes_decide_the_state, changes_keep_soundness,
     guids_read_back, maps_hold_what_counts, stepped_sessions_are_legal, walks_answer_each_key_once,
 };
-pub use name::{NameFault, check_name};
+pub use name::{LONGEST_NAME, NameFault, check_name};
 pub use out_of_memory::OutOfMemory;
 pub use policy::{Lock, Policy};
 pub use reason::SetReason;

@@ -19,13 +19,13 @@ use Rattle.var_region.specs.Searched.{keys_left, least_at, lives_at, lowered, so
 
 module _ (non_volatile : Bool) (bytes : List ℕ) where
   -- the live records from a record on
-  lives_first : (at : ℕ) (r : Record) → record_at Authenticated bytes at ≡ Some r
+  pub lives_first : (at : ℕ) (r : Record) → record_at Authenticated bytes at ≡ Some r
       → lives_at non_volatile bytes at ≡ with_live (live_of Authenticated non_volatile bytes r) (lives_at non_volatile bytes (next_place Authenticated r))
   unfolding lives_at
   lives_first at r e = ap (lives Authenticated non_volatile bytes) (records_first Authenticated bytes at r e)
 
   -- there are none from where there is no record
-  lives_none : (at : ℕ) → record_at Authenticated bytes at ≡ None → lives_at non_volatile bytes at ≡ []
+  pub lives_none : (at : ℕ) → record_at Authenticated bytes at ≡ None → lives_at non_volatile bytes at ≡ []
   unfolding lives_at
   lives_none at e = ap (lives Authenticated non_volatile bytes) (records_none Authenticated bytes at e)
 

@@ -1,5 +1,4 @@
-use Rattle.std.specs.Prelude.{◌≡◌, ℕ, Bool, true, List, [], replicate}
-use Rattle.var_types.specs.Record.{Form}
+use Rattle.std.specs.Prelude.{◌≡◌, ℕ, ◌-◌, true, List, [], length, drop, replicate}
 use Rattle.var_types.specs.Region.{Area, area_records, is_tail_clean, region_map, tail_place}
 
 -- a region has no records, an empty map, and a clean tail at its first place
@@ -9,12 +8,10 @@ pub record IsEmptyArea (area : Area) : Type 0 where
   pub place : tail_place area ≡ area.first
   pub clean : is_tail_clean area ≡ true
 
--- so many erased bytes
-abbrev pub erased_bytes : ℕ → List ℕ
-erased_bytes len = replicate len 255
+-- bytes are erased from a place on
+abbrev pub AreErasedFrom : ℕ → List ℕ → Type 0
+AreErasedFrom at bytes = drop at bytes ≡ replicate (length bytes - at) 255
 
--- a region of erased bytes alone is empty
+-- a region whose bytes are erased from its first record's place on is empty
 abbrev pub ErasedRegionsAreEmpty : Type 0
-ErasedRegionsAreEmpty =
-    (form : Form) (len first : ℕ) (non_volatile : Bool)
-    → IsEmptyArea (record { form = form; bytes = erased_bytes len; first = first; non_volatile = non_volatile })
+ErasedRegionsAreEmpty = (area : Area) → AreErasedFrom area.first area.bytes → IsEmptyArea area

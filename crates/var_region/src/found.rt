@@ -22,11 +22,11 @@ pub struct Found<'a> {
     pub payload: &'a [u8],
 }
 
-/// What a record offers to a search: a variable's record, and whether it is ADDED or in transition.
+/// What a record offers to a search: a variable's record, and whether it is ADDED; else it is in transition to deleted.
 #[derive(Clone, Copy, Debug)]
-pub(crate) struct Offer<'a> {
-    pub(crate) added: bool,
-    pub(crate) found: Found<'a>,
+pub struct Offer<'a> {
+    pub added: bool,
+    pub found: Found<'a>,
 }
 
 fn name_bytes<'a>(bytes: &'a [u8], held: &Record) -> &'a [u8]

@@ -7,6 +7,7 @@ mod find;
 mod find_tests;
 mod found;
 mod laws;
+mod lives;
 mod names;
 mod records;
 mod region;
@@ -16,8 +17,9 @@ mod tests;
 mod walk;
 mod wanted;
 
-pub use found::Found;
+pub use found::{Found, Offer};
 pub use laws::erased_regions_are_empty;
+pub use lives::Lives;
 pub use region::Region;
 pub use tail::Tail;
 pub use var_types::Record;

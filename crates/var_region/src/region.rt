@@ -12,6 +12,7 @@ ghost use Rattle.var_region.specs.Wanted.{bound_of};
 use crate::above::{above, bound_of};
 use crate::find::find_from;
 use crate::found::Found;
+use crate::lives::Lives;
 use crate::tail::{Tail, tail_of};
 use crate::walk::Walk;
 use std::marker::Model;
@@ -59,6 +60,18 @@ impl<'a> Region<'a> {
         Walk {
             bytes: self.bytes,
             at: self.first,
+        }
+    }
+
+    /// A walk over the records that are variables', ADDED or in transition.
+    #[tactic(auto, unfolding(var_types::specs::Region::area_records, var_types::specs::Region::area_lives, crate::specs::Searched::lives_at))]
+    pub fn lives(&self) -> Lives<'a>
+        ensures { result ≡ area_lives self.now }
+    {
+        Lives {
+            bytes: self.bytes,
+            at: self.first,
+            non_volatile: self.non_volatile,
         }
     }
 

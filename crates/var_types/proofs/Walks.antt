@@ -38,7 +38,7 @@ second_passed false true x y rest h = cc
 second_passed false false x y rest h = refl
 
 -- a well-formed name has at most 512 units
-length-well_formed : (name : List ℕ) → IsWellFormed name → length name ≤ 512
+pub length-well_formed : (name : List ℕ) → IsWellFormed name → length name ≤ 512
 length-well_formed name well = ltb-false 512 (length name) (second_passed _ (nat_lt 512 (length name)) _ _ _ well)
 
 -- a well-formed name fits where there is room for the longest

@@ -16,3 +16,4 @@ pub mod Walk
 pub mod Record
 pub mod Live
 pub mod Region
+pub mod Kept

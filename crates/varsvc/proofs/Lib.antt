@@ -1,5 +1,4 @@
 pub mod Positions
-pub mod Parts
 pub mod Sessions
 pub mod Stepped
 pub mod Inputs
@@ -14,3 +13,5 @@ pub mod ReplyWords
 pub mod SameReplies
 pub mod SessionLines
 pub mod OneSession
+pub mod Images
+pub mod BlankImages

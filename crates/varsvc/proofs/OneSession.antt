@@ -8,11 +8,11 @@ use Rattle.var_types.specs.declared.answered.Answered.{Answered}
 use Rattle.var_types.specs.declared.answered.Route.{Route}
 use Rattle.var_types.specs.declared.answered.Route.TheVariants.{Plain}
 use Rattle.var_types.specs.Session.{calls_of}
-use Rattle.varsvc.specs.declared.word.Word.TheVariants as word
+use Rattle.report_text.specs.declared.word.Word.TheVariants as word
 use Rattle.varsvc.specs.Fitting.{IsOfKind, IsFitting, OneTextOneSession}
 use Rattle.varsvc.specs.Replies.{reply_text}
 use Rattle.varsvc.specs.Report.{route_word}
-use Rattle.varsvc.specs.Word.{word_text}
+use Rattle.report_text.specs.Word.{word_text}
 use Rattle.varsvc.proofs.Cut.{cut}
 use Rattle.varsvc.proofs.SameReplies.{same_replies}
 use Rattle.varsvc.proofs.SameWords.{same_lines}

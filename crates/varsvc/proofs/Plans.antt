@@ -52,7 +52,7 @@ RefusesScript-input None input text fault same refused is = tt
 RefusesScript-input (Some bytes) input text fault same refused is = (fault, sym same ∙ refused, is)
 
 -- a run at each of its statuses
-IsRun-memory : (left : Option (List ℕ)) (old new : ℕ) (text : List ℕ) → (text ≡ memory_line) ⊎ Reports left true text → IsRun left old new 8 text
+pub IsRun-memory : (left : Option (List ℕ)) (old new : ℕ) (text : List ℕ) → (text ≡ memory_line) ⊎ Reports left true text → IsRun left old new 8 text
 IsRun-memory left old new text h = record {
   known = inr (inr (inr refl));
   reports = λ e. absurd (omega (arith, e));

@@ -13,9 +13,9 @@ use Rattle.var_types.specs.declared.reply.Reply.{Reply}
 use Rattle.var_types.specs.declared.reply.Reply.TheVariants as reply
 use Rattle.var_types.specs.declared.reply.SetReply.{SetReply}
 use Rattle.var_types.specs.declared.reply.SetReply.TheVariants as set
-use Rattle.varsvc.specs.declared.word.Word.TheVariants as word
+use Rattle.report_text.specs.declared.word.Word.TheVariants as word
 use Rattle.varsvc.specs.Replies.{get_reply_text, next_reply_text, name_fault_text, reason_text, set_reply_text, reply_text}
-use Rattle.varsvc.specs.Word.{word_text}
+use Rattle.report_text.specs.Word.{word_text}
 use Rattle.varsvc.proofs.SameWords.{HaveWords}
 use Rattle.varsvc.proofs.WordBytes.{AreWords, IsWord-attributes_text, IsWord-bytes_text, IsWord-decimal, IsWord-guid_text, IsWord-name_text, IsWord-word_text}
 

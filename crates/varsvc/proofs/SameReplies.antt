@@ -18,7 +18,7 @@ use Rattle.var_types.specs.declared.reply.SetReply.{SetReply}
 use Rattle.var_types.specs.declared.reply.SetReply.TheVariants as set
 use Rattle.varsvc.specs.Fitting.{IsOfKind, HasValues, HasValuesOfGet, HasValuesOfNext, HasValuesOfFault, HasValuesOfReason, HasValuesOfSet}
 use Rattle.varsvc.specs.Replies.{reply_text}
-use Rattle.varsvc.specs.Word.{word_text}
+use Rattle.report_text.specs.Word.{word_text}
 use Rattle.varsvc.proofs.ReplyWords.{get_words, next_words, fault_words, reason_words, set_words, reply_words, reply_text-words, HaveWords-reply}
 use Rattle.varsvc.proofs.SameNames.{same_names}
 use Rattle.varsvc.proofs.SameTexts.{same_attributes, same_bytes, same_guids}

@@ -11,11 +11,11 @@ use Rattle.var_types.specs.declared.verdict.Verdict.{Verdict}
 use Rattle.var_types.specs.declared.verdict.Verdict.TheVariants.{Good, Bad}
 use Rattle.var_types.specs.History.{Entry}
 use Rattle.var_types.specs.Session.{history_of}
-use Rattle.varsvc.specs.declared.word.Word.{Word}
-use Rattle.varsvc.specs.declared.word.Word.TheVariants as word
+use Rattle.report_text.specs.declared.word.Word.{Word}
+use Rattle.report_text.specs.declared.word.Word.TheVariants as word
 use Rattle.varsvc.specs.Replies.{reply_text}
 use Rattle.varsvc.specs.Report.{entry_line, history_lines, route_word, answer_line, indexed, processor_lines, session_text}
-use Rattle.varsvc.specs.Word.{word_text}
+use Rattle.report_text.specs.Word.{word_text}
 use Rattle.varsvc.proofs.ReplyWords.{reply_words, reply_text-words, HaveWords-reply}
 use Rattle.varsvc.proofs.SameWords.{HaveWords, ended, AreLines-append}
 use Rattle.varsvc.proofs.WordBytes.{IsLine, AreLines, AreWords, AreLines-words, IsLine-word, IsLine-spaced, IsWord-attributes_text, IsWord-bytes_text, IsWord-decimal, IsWord-guid_text, IsWord-name_text, IsWord-word_text}

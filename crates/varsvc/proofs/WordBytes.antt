@@ -13,9 +13,9 @@ use Rattle.var_types.specs.Guid.{guid_text}
 use Rattle.script_text.specs.Names.{is_plain}
 use Rattle.script_text.specs.Numbers.{is_dash}
 use Rattle.script_text.specs.Texts.{spaced, attributes_text, bytes_text, escaped_text, unit_text, name_text}
-use Rattle.varsvc.specs.declared.word.Word.{Word}
-use Rattle.varsvc.specs.declared.word.Word.TheVariants as word
-use Rattle.varsvc.specs.Word.{word_text}
+use Rattle.report_text.specs.declared.word.Word.{Word}
+use Rattle.report_text.specs.declared.word.Word.TheVariants as word
+use Rattle.report_text.specs.Word.{word_text}
 
 -- whether a byte may stand in a line: all but LF may
 abbrev pub is_line_byte : ℕ → Bool

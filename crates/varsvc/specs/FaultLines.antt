@@ -1,14 +1,16 @@
 use Rattle.std.specs.Prelude.{ℕ, List, [], ◌∷◌, decimal}
+use Rattle.flash_dev.specs.declared.image_fault.ImageFault.{ImageFault}
+use Rattle.flash_dev.specs.declared.image_fault.ImageFault.TheVariants as image
 use Rattle.script_text.specs.declared.fault.ScriptFault.{ScriptFault}
 use Rattle.script_text.specs.declared.fault.ScriptFault.TheVariants as script
 use Rattle.script_text.specs.declared.reason.LineReason.{LineReason}
 use Rattle.script_text.specs.declared.reason.LineReason.TheVariants as reason
 use Rattle.varsvc.specs.declared.usage.UsageFault.{UsageFault}
 use Rattle.varsvc.specs.declared.usage.UsageFault.TheVariants as usage
-use Rattle.varsvc.specs.declared.word.Word.{Word}
-use Rattle.varsvc.specs.declared.word.Word.TheVariants as word
-use Rattle.varsvc.specs.Line.{line_text}
-use Rattle.varsvc.specs.Word.{word_text}
+use Rattle.report_text.specs.declared.word.Word.{Word}
+use Rattle.report_text.specs.declared.word.Word.TheVariants as word
+use Rattle.report_text.specs.Line.{line_text}
+use Rattle.report_text.specs.Word.{word_text}
 
 -- the line for want of memory
 unfoldable pub memory_line : List ℕ
@@ -17,6 +19,19 @@ memory_line = line_text (word_text word.No ∷ word_text word.Memory ∷ [])
 -- the line for a failed read of the input
 unfoldable pub input_line : List ℕ
 input_line = line_text (word_text word.Input ∷ word_text word.Fault ∷ [])
+
+-- the line for a failed call of the flash
+unfoldable pub device_line : List ℕ
+device_line = line_text (word_text word.Device ∷ word_text word.Fault ∷ [])
+
+-- the line for a refused image (this project's own)
+unfoldable pub image_line : ImageFault → List ℕ
+image_line (image.ImageSize have want) = line_text (word_text word.Image ∷ word_text word.Size ∷ decimal have ∷ decimal want ∷ [])
+image_line (image.NotAVolume at) = line_text (word_text word.Image ∷ word_text word.Volume ∷ decimal at ∷ [])
+image_line (image.BlockSize value) = line_text (word_text word.Image ∷ word_text word.Block ∷ decimal value ∷ [])
+image_line (image.BadSum sum) = line_text (word_text word.Image ∷ word_text word.Sum ∷ decimal sum ∷ [])
+image_line (image.NotAStore at) = line_text (word_text word.Image ∷ word_text word.Store ∷ decimal at ∷ [])
+image_line image.Device = device_line
 
 -- the line for refused words (this project's own)
 unfoldable pub usage_line : UsageFault → List ℕ

@@ -1,6 +1,4 @@
 pub mod Order
-pub mod Word
-pub mod Line
 pub mod FaultLines
 pub mod Replies
 pub mod Report

@@ -1,16 +1,20 @@
-use Rattle.std.specs.Prelude.{◌≡◌, ◌⊎◌, ℕ, List, [], Err, max, length, if◌then◌else◌}
+use Rattle.std.specs.Prelude.{◌≡◌, ◌⊎◌, ℕ, List, [], Err, Option, IfSome, max, length, if◌then◌else◌}
+use Rattle.flash_dev.specs.declared.image_fault.ImageFault.{ImageFault}
+use Rattle.flash_dev.specs.declared.image_fault.ImageFault.TheVariants as image
+use Rattle.report_text.specs.Listing.{listing_text}
 use Rattle.script_text.specs.declared.fault.ScriptFault.{ScriptFault}
 use Rattle.script_text.specs.Script.{script_of}
 use Rattle.var_types.specs.declared.answered.Answered.{Answered}
 use Rattle.var_types.specs.declared.call.Call.{Call}
+use Rattle.var_types.specs.Kept.{kept}
 use Rattle.var_types.specs.Session.{AreStepped, calls_of}
 use Rattle.var_types.specs.State.{start}
 use Rattle.varsvc.specs.declared.plan.Plan.{Plan}
 use Rattle.varsvc.specs.declared.plan.Plan.TheVariants.{Print, NoMemory}
 use Rattle.varsvc.specs.declared.usage.UsageFault.{UsageFault}
 use Rattle.varsvc.specs.declared.usage.UsageFault.TheVariants as usage
-use Rattle.varsvc.specs.FaultLines.{memory_line, usage_line, script_line}
-use Rattle.varsvc.specs.Outcome.{IsSessionOf, lacks_any}
+use Rattle.varsvc.specs.FaultLines.{image_line, memory_line, usage_line, script_line}
+use Rattle.varsvc.specs.Outcome.{FailsFlash, IsSessionOf, lacks_any}
 use Rattle.varsvc.specs.Report.{session_text}
 
 -- the status of a plan, and the text that it prints
@@ -54,9 +58,29 @@ PlansUsage (usage.Dash at) plan = PlansLine 2 (usage_line (usage.Dash at)) plan
 PlansUsage (usage.Missing want have) plan = PlansLine 2 (usage_line (usage.Missing want have)) plan
 PlansUsage (usage.Extra at) plan = PlansLine 2 (usage_line (usage.Extra at)) plan
 
+-- the status of a fault of an image
+abbrev pub fault_status : ImageFault → ℕ
+fault_status (image.ImageSize have want) = 4
+fault_status (image.NotAVolume at) = 4
+fault_status (image.BlockSize value) = 4
+fault_status (image.BadSum sum) = 4
+fault_status (image.NotAStore at) = 4
+fault_status image.Device = 7
+
+-- the plan for a fault of an image
+abbrev pub PlansFault : ImageFault → Plan → Type 0
+PlansFault fault plan = PlansLine (fault_status fault) (image_line fault) plan
+
 -- the plan for a script: it is refused, or run; but for want of memory
 abbrev pub PlansScript : List ℕ → Plan → Type 0
 PlansScript input NoMemory = Unit {0}
 PlansScript input (Print s text) =
     ((s ≡ 3) × (fault : ScriptFault) × (script_of input ≡ Err fault) × (text ≡ script_line fault))
     ⊎ ((answered : List Answered) × IsSessionOf input answered × (s ≡ report_status answered) × (text ≡ session_text answered))
+
+-- the plan for the volume of an accepted image that is told: its listing, or that a call of the flash failed
+abbrev pub PlansVolume : Option (List ℕ) → ℕ → ℕ → Plan → Type 0
+PlansVolume image old new NoMemory = Unit {0}
+PlansVolume image old new (Print s text) =
+    ((s ≡ 0) × IfSome image (λ bytes. text ≡ listing_text (kept bytes)))
+    ⊎ ((s ≡ 7) × FailsFlash old new text)

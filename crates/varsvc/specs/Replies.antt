@@ -13,8 +13,8 @@ use Rattle.var_types.specs.declared.reply.Reply.{Reply}
 use Rattle.var_types.specs.declared.reply.Reply.TheVariants as reply
 use Rattle.var_types.specs.declared.reply.SetReply.{SetReply}
 use Rattle.var_types.specs.declared.reply.SetReply.TheVariants as set
-use Rattle.varsvc.specs.declared.word.Word.TheVariants as word
-use Rattle.varsvc.specs.Word.{word_text}
+use Rattle.report_text.specs.declared.word.Word.TheVariants as word
+use Rattle.report_text.specs.Word.{word_text}
 
 -- the reply of GetVariable: the status as UEFI names it, the attributes, and the bytes or how many are needed (UEFI 2.10, 8.2.1)
 unfoldable pub get_reply_text : GetReply → List ℕ

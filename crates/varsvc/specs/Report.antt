@@ -6,11 +6,11 @@ use Rattle.var_types.specs.declared.answered.Route.TheVariants.{Plain}
 use Rattle.var_types.specs.History.{Entry}
 use Rattle.var_types.specs.Session.{history_of, entry_of}
 use Rattle.var_types.specs.Step.{is_change}
-use Rattle.varsvc.specs.declared.word.Word.{Word}
-use Rattle.varsvc.specs.declared.word.Word.TheVariants as word
-use Rattle.varsvc.specs.Line.{line_text}
+use Rattle.report_text.specs.declared.word.Word.{Word}
+use Rattle.report_text.specs.declared.word.Word.TheVariants as word
+use Rattle.report_text.specs.Line.{line_text}
 use Rattle.varsvc.specs.Replies.{reply_text}
-use Rattle.varsvc.specs.Word.{word_text}
+use Rattle.report_text.specs.Word.{word_text}
 
 -- the line of a change: its number, the processor and the index of its call, and the call (this project's own)
 unfoldable pub entry_line : Entry → List ℕ

@@ -1,9 +1,11 @@
-ghost use Rattle.std.specs.Prelude.{◌≡◌, ◌++◌, OnOk};
-ghost use Rattle.varsvc.specs.FaultLines.{usage_line, script_line, input_line, memory_line, reason_word};
+ghost use Rattle.std.specs.Prelude.{◌≡◌, ◌++◌, [], ◌∷◌, decimal, OnOk};
+ghost use Rattle.report_text.specs.Line.{line_text};
+ghost use Rattle.report_text.specs.Word.{word_text};
+ghost use Rattle.varsvc.specs.FaultLines.{usage_line, script_line, input_line, memory_line, device_line, image_line, reason_word};
 
-use crate::part::{Part, write_line};
 use crate::usage::UsageFault;
-use crate::word::Word;
+use flash_dev::ImageFault;
+use report_text::{Part, Word, write_line};
 use script_text::{LineReason, ScriptFault};
 use var_types::{Bytes, OutOfMemory};
 
@@ -21,6 +23,47 @@ pub fn write_input_line(out: &mut Bytes) -> Result<(), OutOfMemory>
     ensures { OnOk result (out.new ≡ out.old ++ input_line) }
 {
     write_line(&[Part::Word(Word::Input), Part::Word(Word::Fault)], out)
+}
+
+/// Appends the line for a failed call of the flash.
+#[tactic(auto, unfolding(crate::specs::FaultLines::device_line))]
+pub fn write_device_line(out: &mut Bytes) -> Result<(), OutOfMemory>
+    ensures { OnOk result (out.new ≡ out.old ++ device_line) }
+{
+    write_line(&[Part::Word(Word::Device), Part::Word(Word::Fault)], out)
+}
+
+// Appends the word of a refused image, that of what refuses it, and its number.
+fn write_image_number(word: Word, number: u64, out: &mut Bytes) -> Result<(), OutOfMemory>
+    ensures { OnOk result (out.new ≡ out.old ++ line_text (word_text Word.Image ∷ word_text word ∷ decimal number ∷ [])) }
+{
+    write_line(
+        &[
+            Part::Word(Word::Image),
+            Part::Word(word),
+            Part::Number(number),
+        ],
+        out,
+    )
+}
+
+/// Appends the line for a refused image.
+#[tactic(auto, unfolding(crate::specs::FaultLines::image_line))]
+pub fn write_image_line(fault: ImageFault, out: &mut Bytes) -> Result<(), OutOfMemory>
+    ensures { OnOk result (out.new ≡ out.old ++ image_line fault) }
+{
+    match fault {
+        ImageFault::ImageSize { have, want } => {
+            let image = Part::Word(Word::Image);
+            let size = Part::Word(Word::Size);
+            write_line(&[image, size, Part::Number(have), Part::Number(want)], out)
+        }
+        ImageFault::NotAVolume { at } => write_image_number(Word::Volume, u64::from(at), out),
+        ImageFault::BlockSize { value } => write_image_number(Word::Block, u64::from(value), out),
+        ImageFault::BadSum { sum } => write_image_number(Word::Sum, u64::from(sum), out),
+        ImageFault::NotAStore { at } => write_image_number(Word::Store, u64::from(at), out),
+        ImageFault::Device => write_device_line(out),
+    }
 }
 
 /// Appends the line for refused words.

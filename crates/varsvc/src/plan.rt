@@ -1,7 +1,7 @@
-ghost use Rattle.std.specs.Prelude.{◌≡◌, ◌≤◌, ◌++◌, [], ◌∷◌, map, string_bytes, length, IfSome};
+ghost use Rattle.std.specs.Prelude.{◌≡◌, ◌≤◌, [], ◌∷◌, length, IfSome};
 ghost use Rattle.script_text.specs.Script.{script_of};
 ghost use Rattle.varsvc.specs.FaultLines.{input_line, usage_line, script_line};
-ghost use Rattle.varsvc.specs.Outcome.{IsRun, IsRefused, IsPlanned};
+ghost use Rattle.varsvc.specs.Outcome.{IsRun};
 ghost use Rattle.varsvc.specs.Plan.{status_of, text_of, PlansLine, PlansReport, PlansCalls, PlansRun, PlansUsage, PlansScript};
 
 use crate::fault_lines::{write_input_line, write_script_line, write_usage_line};
@@ -9,7 +9,6 @@ use crate::input::{InputFault, read_input};
 use crate::report::write_session;
 use crate::session::{any_lacks_memory, run_calls};
 use crate::usage::UsageFault;
-use crate::words::read_words;
 use outside::Source;
 use script_text::{Script, ScriptFault, read_script};
 use std::alloc::Global;
@@ -103,7 +102,8 @@ fn plan_script(alloc: Global, input: &[u8]) -> Plan
     }
 }
 
-fn plan_run<S: Source>(alloc: Global, source: &mut S) -> Plan
+/// Reads a script to its end, runs it on one processor, and plans what is to be printed.
+pub fn plan_run<S: Source>(alloc: Global, source: &mut S) -> Plan
     ensures run { IsRun (S.left source.old) (S.faults source.old) (S.faults source.new) (status_of result) (text_of result) }
     ensures never_falls { S.faults source.old ≤ S.faults source.new }
 {
@@ -114,22 +114,12 @@ fn plan_run<S: Source>(alloc: Global, source: &mut S) -> Plan
     }
 }
 
-fn plan_words(alloc: Global, fault: UsageFault) -> Plan
+/// Plans the line for refused words.
+pub fn plan_words(alloc: Global, fault: UsageFault) -> Plan
     ensures { PlansUsage fault result }
 {
     match fault {
         UsageFault::OutOfMemory => Plan::NoMemory,
         fault => plan_usage(alloc, fault),
-    }
-}
-
-/// Reads the words, and the input where they are accepted, and plans what is to be printed.
-pub fn make_plan<S: Source>(alloc: Global, words: &[String], source: &mut S) -> Plan
-    ensures planned { IsPlanned (map string_bytes words.now) (S.left source.old) (S.faults source.old) (S.faults source.new) (status_of result) (text_of result) }
-    ensures never_falls { S.faults source.old ≤ S.faults source.new }
-{
-    match read_words(alloc, words) {
-        Ok(_) => plan_run(alloc, source),
-        Err(fault) => plan_words(alloc, fault),
     }
 }

@@ -1,8 +1,7 @@
 ghost use Rattle.std.specs.Prelude.{◌≡◌, ◌++◌, OnOk};
 ghost use Rattle.varsvc.specs.Replies.{get_reply_text, next_reply_text, name_fault_text, reason_text, set_reply_text, reply_text};
 
-use crate::part::{Part, write_parts};
-use crate::word::Word;
+use report_text::{Part, Word, write_parts};
 use var_types::{Bytes, GetReply, NameFault, NextReply, OutOfMemory, Reply, SetReason, SetReply};
 
 #[tactic(auto, unfolding(crate::specs::Replies::get_reply_text))]

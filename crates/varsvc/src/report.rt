@@ -2,10 +2,9 @@ ghost use Rattle.std.specs.Prelude.{◌≡◌, ◌++◌, length, OnOk};
 ghost use Rattle.var_types.specs.Session.{history_of, entry_of};
 ghost use Rattle.varsvc.specs.Report.{change_lines, history_lines, route_word, answer_line, processor_lines, session_text, indexed};
 
-use crate::part::{Part, write_line, write_parts};
 use crate::replies::write_reply;
 use crate::session::is_change;
-use crate::word::Word;
+use report_text::{Part, Word, write_line, write_parts};
 use var_types::{Answered, Bytes, OutOfMemory, Route};
 
 fn count_changes(answered: &[Answered]) -> usize

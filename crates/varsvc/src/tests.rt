@@ -1,4 +1,5 @@
 use crate::varsvc;
+use flash_dev::{FaultPlan, MemFlash, Torn};
 use outside::{MemSink, MemSource};
 use std::alloc::{AllocError, Global};
 use std::test::Fail;
@@ -14,6 +15,15 @@ struct Case<'a> {
     sink_fails: &'a [u32],
 }
 
+fn flash_of(bytes: Vec<u8>, fails: Vec<u32>) -> MemFlash {
+    let plan = FaultPlan {
+        fails,
+        stop_at: None,
+        torn: Torn::Before,
+    };
+    MemFlash::new(bytes, plan)
+}
+
 fn words_of(alloc: Global, words: &[&str]) -> Result<Vec<String>, AllocError> {
     let mut all = Vec::new(alloc);
     for word in words {
@@ -26,13 +36,14 @@ fn run(alloc: Global, case: &Case, room: usize) -> Result<(u8, Vec<u8>), AllocEr
     let words = words_of(alloc, case.words)?;
     let mut source = MemSource::new(case.script.to_vec(alloc)?, case.source_fails.to_vec(alloc)?);
     let mut sink = MemSink::new(vec![in alloc; 0u8; room]?, case.sink_fails.to_vec(alloc)?);
-    let done = varsvc(alloc, &words, &mut source, 7u8, &mut sink);
+    let image = flash_of(Vec::new(alloc), Vec::new(alloc));
+    let done = varsvc(alloc, &words, &mut source, image, &mut sink);
     Ok((done.status, sink.bytes().to_vec(alloc)?))
 }
 
 #[test]
 fn words_are_refused(rt: HostRuntime) -> Result<(), Fail> {
-    let cases: [(&[&str], &str); 8] = [
+    let cases: [(&[&str], &str); 13] = [
         (&[], "usage no-verb\n"),
         (&["frob"], "usage unknown-verb\n"),
         (&["Run", "vars.fd"], "usage unknown-verb\n"),
@@ -41,6 +52,11 @@ fn words_are_refused(rt: HostRuntime) -> Result<(), Fail> {
         (&["run", "vars.fd", "-x"], "usage dash 2\n"),
         (&["run", "vars.fd", "more"], "usage extra 2\n"),
         (&["run", "vars.fd", "more", "-"], "usage dash 3\n"),
+        (&["list"], "usage missing 1 0\n"),
+        (&["list", "a", "b"], "usage extra 2\n"),
+        (&["format", "--x"], "usage dash 1\n"),
+        (&["format"], "usage missing 1 0\n"),
+        (&["lists", "a"], "usage unknown-verb\n"),
     ];
     for (words, line) in cases {
         let call = Case {
@@ -134,12 +150,15 @@ fn failures_decide_the_status(rt: HostRuntime) -> Result<(), Fail> {
 }
 
 #[test]
-fn the_image_is_handed_back(rt: HostRuntime) -> Result<(), Fail> {
+fn a_run_hands_the_image_back(rt: HostRuntime) -> Result<(), Fail> {
     let alloc = rt.alloc();
     let words = words_of(alloc, &["run", "vars.fd"])?;
     let mut source = MemSource::new(Vec::new(alloc), Vec::new(alloc));
     let mut sink = MemSink::new(vec![in alloc; 0u8; ROOM]?, Vec::new(alloc));
-    let done = varsvc(alloc, &words, &mut source, 7u8, &mut sink);
-    assert_eq!(rt; done.image, Some(7));
+    let image = flash_of([1, 2, 3].to_vec(alloc)?, Vec::new(alloc));
+    let done = varsvc(alloc, &words, &mut source, image, &mut sink);
+    let after = done.image.expect(&rt, "the image is there");
+    assert_eq!(rt; after.bytes(), [1, 2, 3].as_slice());
+    assert_eq!(rt; after.calls(), 0);
     Ok(())
 }

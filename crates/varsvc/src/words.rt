@@ -1,9 +1,10 @@
 ghost use Rattle.std.specs.Prelude.{◌≡◌, ◌==◌, ◌<◌, length, map, position, string_bytes, IfSome};
-ghost use Rattle.varsvc.specs.Order.{order_of, run_order, image_order, is_dashed, GivesOrder};
+ghost use Rattle.varsvc.specs.Order.{order_of, verb_order, image_order, is_dashed, GivesOrder};
 
 use crate::image_name::ImageName;
 use crate::order::Order;
 use crate::usage::UsageFault;
+use crate::verb::{Verb, order_with, verb_of};
 use std::alloc::Global;
 
 fn is_dashed(word: &String) -> bool
@@ -19,28 +20,26 @@ fn first_dashed(words: &[String]) -> Option<usize>
     words.iter().position(|word| is_dashed(word))
 }
 
-fn image_order(alloc: Global, words: &[String]) -> Result<Order, UsageFault>
-    ensures { GivesOrder result (image_order (map string_bytes words.now)) }
+fn image_order(alloc: Global, verb: Verb, words: &[String]) -> Result<Order, UsageFault>
+    ensures { GivesOrder result (image_order verb (map string_bytes words.now)) }
 {
     match words {
         [] => Err(UsageFault::Missing { want: 1, have: 0 }),
         [image] => match String::from_str(alloc, image.as_str()) {
-            Ok(text) => Ok(Order::Run {
-                image: ImageName::new(text),
-            }),
+            Ok(text) => Ok(order_with(verb, ImageName::new(text))),
             Err(_) => Err(UsageFault::OutOfMemory),
         },
         _ => Err(UsageFault::Extra { at: 2 }),
     }
 }
 
-#[tactic(auto, unfolding(crate::specs::Order::run_order))]
-fn run_order(alloc: Global, words: &[String]) -> Result<Order, UsageFault>
-    ensures { GivesOrder result (run_order (map string_bytes words.now)) }
+#[tactic(auto, unfolding(crate::specs::Order::verb_order))]
+fn verb_order(alloc: Global, verb: Verb, words: &[String]) -> Result<Order, UsageFault>
+    ensures { GivesOrder result (verb_order verb (map string_bytes words.now)) }
 {
     match first_dashed(words) {
         Some(at) => Err(UsageFault::Dash { at: at as u64 + 1 }),
-        None => image_order(alloc, words),
+        None => image_order(alloc, verb, words),
     }
 }
 
@@ -49,11 +48,11 @@ fn run_order(alloc: Global, words: &[String]) -> Result<Order, UsageFault>
 pub fn read_words(alloc: Global, words: &[String]) -> Result<Order, UsageFault>
     ensures { GivesOrder result (order_of (map string_bytes words.now)) }
 {
-    let Some((verb, rest)) = words.split_first() else {
+    let Some((first, rest)) = words.split_first() else {
         return Err(UsageFault::NoVerb);
     };
-    if verb.as_str() != "run" {
-        return Err(UsageFault::UnknownVerb);
+    match verb_of(first) {
+        Some(verb) => verb_order(alloc, verb, rest),
+        None => Err(UsageFault::UnknownVerb),
     }
-    run_order(alloc, rest)
 }

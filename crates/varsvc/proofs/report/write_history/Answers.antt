@@ -1,9 +1,9 @@
 use Rattle.std.proofs.Common.{◌≡◌, ℕ, List, [], ◌∷◌, ◌++◌, OnOk, ap, ◌∙◌, subst, append_assoc, decimal, length}
 use Rattle.var_types.specs.Session.{history_of}
-use Rattle.varsvc.specs.declared.word.Word.TheVariants as word
-use Rattle.varsvc.specs.Line.{line_text}
+use Rattle.report_text.specs.declared.word.Word.TheVariants as word
+use Rattle.report_text.specs.Line.{line_text}
 use Rattle.varsvc.specs.Report.{history_lines, indexed, change_lines}
-use Rattle.varsvc.specs.Word.{word_text}
+use Rattle.report_text.specs.Word.{word_text}
 use Rattle.varsvc.proofs.Sessions.{indexed-changes}
 use Rattle.varsvc.proofs.report.write_history.Goals as goal
 

@@ -1,0 +1,68 @@
+-- An image that is erased block by block.
+use Rattle.std.proofs.Common.{◌≡◌, ℕ, ◌+◌, ◌*◌, List, ◌++◌, length, take, drop, replicate, refl, sym, ap, ◌∙◌, arith, Option, Some, None, IfSome}
+use Rattle.std.proofs.lemmas.List.{append-nil, drop-drop, drop_all, drop_at, length-replicate, replicate-append-replicate, take_at}
+use Rattle.flash_dev.specs.Rules.{Leaves, block_filled, filled}
+use Rattle.flash_dev.proofs.Calls.{leaves_then}
+
+-- an image of which so many bytes at the front are erased
+abbrev pub front_erased : ℕ → List ℕ → List ℕ
+front_erased n image = replicate n 255 ++ drop n image
+
+-- and of which so many blocks are
+unfoldable pub blocks_erased : ℕ → List ℕ → List ℕ
+blocks_erased block image = front_erased (4096 * block) image
+
+-- more bytes are erased
+more_erased : (n count : ℕ) (image : List ℕ) → filled n count 255 (front_erased n image) ≡ front_erased (n + count) image
+more_erased n count image =
+    let size : length (replicate n 255) ≡ n = length-replicate {A = ℕ} n 255 in
+    let front : take n (front_erased n image) ≡ replicate n 255 = take_at (replicate n 255) (drop n image) n size in
+    let behind : drop (n + count) (front_erased n image) ≡ drop (n + count) image =
+    sym (drop-drop count n (front_erased n image)) ∙ ap (drop count) (drop_at (replicate n 255) (drop n image) n size) ∙ drop-drop count n image in
+    ap (λ list. list ++ replicate count 255 ++ drop (n + count) (front_erased n image)) front
+    ∙ ap (λ list. list ++ drop (n + count) (front_erased n image)) (replicate-append-replicate n count 255)
+    ∙ ap (λ list. replicate (n + count) 255 ++ list) behind
+
+-- the place behind a block is that of the next
+next_place : (block : ℕ) → 4096 * block + 4096 ≡ 4096 * (block + 1)
+next_place block = omega arith
+
+-- a block more is erased
+block_more : (block : ℕ) (image : List ℕ) → block_filled block 255 (blocks_erased block image) ≡ blocks_erased (block + 1) image
+unfolding block_filled blocks_erased
+block_more block image = more_erased (4096 * block) 4096 image ∙ ap (λ n. front_erased n image) (next_place block)
+
+-- where none is, the image stands
+pub none_erased : (image : List ℕ) → image ≡ blocks_erased 0 image
+unfolding blocks_erased
+none_erased image = refl
+
+-- where all are, the image is erased
+all_erased : (block n : ℕ) (image : List ℕ) → 4096 * block ≡ n → length image ≡ n → blocks_erased block image ≡ replicate n 255
+unfolding blocks_erased
+all_erased block n image e size =
+    ap (λ m. front_erased m image) e ∙ ap (λ rest. replicate n 255 ++ rest) (drop_all n image (omega arith)) ∙ append-nil (replicate n 255)
+
+-- what is told of an image whose blocks are erased
+abbrev pub AreErased : ℕ → Option (List ℕ) → Option (List ℕ) → Type 0
+AreErased block = Leaves (λ image left. left ≡ blocks_erased block image)
+
+-- before the first
+pub no_blocks : (told : Option (List ℕ)) → AreErased 0 told told
+no_blocks None = refl
+no_blocks (Some image) = none_erased image
+
+-- after one more
+pub one_block : (block : ℕ) (old now next : Option (List ℕ)) → AreErased block old now
+    → Leaves (λ image left. left ≡ block_filled block 255 image) now next → AreErased (block + 1) old next
+one_block block old now next was is =
+    leaves_then (λ image left. left ≡ blocks_erased block image) (λ image left. left ≡ block_filled block 255 image)
+    (λ image left. left ≡ blocks_erased (block + 1) image) old now next was is
+    (λ image cells left e f. f ∙ ap (block_filled block 255) e ∙ block_more block image)
+
+-- after the last
+pub last_block : (block n : ℕ) (old now : Option (List ℕ)) → 4096 * block ≡ n → IfSome old (λ image. length image ≡ n) → AreErased block old now
+    → Leaves (λ _ left. left ≡ replicate n 255) old now
+last_block block n None now e size was = was
+last_block block n (Some image) None e size was = was
+last_block block n (Some image) (Some left) e size was = was ∙ all_erased block n image e size

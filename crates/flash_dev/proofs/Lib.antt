@@ -1,0 +1,9 @@
+pub mod Cleared
+pub mod Filled
+pub mod Placed
+pub mod Left
+pub mod Sizes
+pub mod Erased
+pub mod Calls
+pub mod Blanks
+pub mod Fresh

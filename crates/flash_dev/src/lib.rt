@@ -1,0 +1,30 @@
+//! The flash under the services: as contracts see it, in memory, and over a file; the headers of its volume, and the blank image.
+#![tactic(auto)]
+
+mod blank;
+mod cells;
+mod device;
+mod fate;
+mod fault_plan;
+mod file_flash;
+mod flash;
+mod geometry;
+mod guids;
+mod headers;
+mod image_fault;
+mod laws;
+mod layout;
+mod mem_flash;
+#[cfg(test)]
+mod tests;
+
+pub use blank::format_image;
+pub use device::Device;
+pub use fault_plan::{FaultPlan, Torn};
+pub use file_flash::FileFlash;
+pub use flash::Flash;
+pub use geometry::{Geometry, geometry_of, read_geometry};
+pub use image_fault::ImageFault;
+pub use laws::blank_images_are_accepted;
+pub use layout::{BLOCK_BYTES, BLOCKS, HEADERS_BYTES, IMAGE_BYTES, VOLUME_BYTES};
+pub use mem_flash::MemFlash;

@@ -1,0 +1,15 @@
+//! The lines that are printed: their words and parts, and the listing of a store's variables.
+#![tactic(auto)]
+
+mod listing;
+mod part;
+mod stamp;
+#[cfg(test)]
+mod tests;
+mod units;
+mod variables;
+mod word;
+
+pub use listing::write_listing;
+pub use part::{Part, write_line, write_parts};
+pub use word::Word;

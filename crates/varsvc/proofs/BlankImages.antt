@@ -1,0 +1,35 @@
+-- A blank image keeps no variable: its volume is its headers, and erased behind them.
+use Rattle.std.proofs.Common.{◌≡◌, ℕ, ◌+◌, ◌-◌, ◌≤◌, List, [], ◌++◌, length, take, drop, replicate, sym, ap, ◌∙◌, subst, arith, lit≤, length-append}
+use Rattle.std.proofs.lemmas.List.{length-replicate, take-replicate}
+use Rattle.std.proofs.Math.Seq.{drop-append_seam, take-append-add}
+use Rattle.flash_dev.proofs.Blanks.{length-blank_headers}
+use Rattle.flash_dev.specs.Blank.{blank_headers, blank_image}
+use Rattle.var_region.proofs.Erased.{IsEmptyArea-erased}
+use Rattle.var_region.specs.Laws.{AreErasedFrom}
+use Rattle.var_types.specs.Kept.{content, content_area, kept}
+
+-- the front of bytes with erased ones behind them
+front_of : (bytes : List ℕ) (n m : ℕ) → n ≤ m → take (length bytes + n) (bytes ++ replicate m 255) ≡ bytes ++ replicate n 255
+front_of bytes n m few = take-append-add bytes (replicate m 255) n ∙ ap (λ rest. bytes ++ rest) (take-replicate n m 255 few)
+
+-- is erased behind those bytes
+erased_behind : (bytes : List ℕ) (n : ℕ) → AreErasedFrom (length bytes) (bytes ++ replicate n 255)
+erased_behind bytes n =
+    let size : length (bytes ++ replicate n 255) - length bytes ≡ n =
+    omega (arith, length-append bytes (replicate n 255), length-replicate {A = ℕ} n 255) in
+    drop-append_seam bytes (replicate n 255) ∙ ap (λ k. replicate k 255) (sym size)
+
+-- the volume of the blank image
+volume_is : content blank_image ≡ blank_headers ++ replicate 57244 255
+unfolding blank_image
+volume_is =
+    ap (λ k. take k (blank_headers ++ replicate 130972 255)) (sym (ap (λ n. n + 57244) length-blank_headers))
+    ∙ front_of blank_headers 57244 130972 (lit≤ tt)
+
+-- the blank image keeps no variable
+pub kept-blank_image : kept blank_image ≡ []
+unfolding kept
+kept-blank_image =
+    let behind = subst (λ at. AreErasedFrom at (blank_headers ++ replicate 57244 255)) length-blank_headers (erased_behind blank_headers 57244) in
+    let erased = subst (AreErasedFrom 100) (sym volume_is) behind in
+    (IsEmptyArea-erased (content_area blank_image) erased).no_variables

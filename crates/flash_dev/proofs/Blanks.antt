@@ -18,17 +18,17 @@ length-blank_image =
     ∙ ap (λ n. length blank_headers + n) (length-replicate {A = ℕ} 130972 255)
     ∙ ap (λ n. n + 130972) length-blank_headers
 
--- its headers stand at its front
+-- the headers stand at the front of the blank image
 blank_front : take 100 blank_image ≡ blank_headers
 unfolding blank_image
 blank_front = take_at blank_headers (replicate 130972 255) 100 length-blank_headers
 
--- they are accepted
+-- the headers of the blank image are accepted
 headers_accepted : geometry_of blank_headers ≡ Ok (record { plain = false })
 unfolding blank_headers geometry_of volume_check blocks_check sum_check store_check
 headers_accepted = refl
 
--- and so is the image
+-- the blank image is accepted
 pub blank_accepted : image_geometry blank_image ≡ Ok (record { plain = false })
 unfolding image_geometry
 blank_accepted = rw (eq-eqb (length blank_image) 131072 length-blank_image, blank_front) headers_accepted

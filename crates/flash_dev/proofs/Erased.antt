@@ -8,7 +8,7 @@ use Rattle.flash_dev.proofs.Calls.{leaves_then}
 abbrev pub front_erased : ℕ → List ℕ → List ℕ
 front_erased n image = replicate n 255 ++ drop n image
 
--- and of which so many blocks are
+-- an image of which so many blocks at the front are erased
 unfoldable pub blocks_erased : ℕ → List ℕ → List ℕ
 blocks_erased block image = front_erased (4096 * block) image
 
@@ -32,12 +32,12 @@ block_more : (block : ℕ) (image : List ℕ) → block_filled block 255 (blocks
 unfolding block_filled blocks_erased
 block_more block image = more_erased (4096 * block) 4096 image ∙ ap (λ n. front_erased n image) (next_place block)
 
--- where none is, the image stands
+-- an image of which no block is erased is as it was
 pub none_erased : (image : List ℕ) → image ≡ blocks_erased 0 image
 unfolding blocks_erased
 none_erased image = refl
 
--- where all are, the image is erased
+-- an image of which all blocks are erased is 0xFF alone
 all_erased : (block n : ℕ) (image : List ℕ) → 4096 * block ≡ n → length image ≡ n → blocks_erased block image ≡ replicate n 255
 unfolding blocks_erased
 all_erased block n image e size =
@@ -47,12 +47,12 @@ all_erased block n image e size =
 abbrev pub AreErased : ℕ → Option (List ℕ) → Option (List ℕ) → Type 0
 AreErased block = Leaves (λ image left. left ≡ blocks_erased block image)
 
--- before the first
+-- what is told before the first block is erased
 pub no_blocks : (told : Option (List ℕ)) → AreErased 0 told told
 no_blocks None = refl
 no_blocks (Some image) = none_erased image
 
--- after one more
+-- what is told after one block more is erased
 pub one_block : (block : ℕ) (old now next : Option (List ℕ)) → AreErased block old now
     → Leaves (λ image left. left ≡ block_filled block 255 image) now next → AreErased (block + 1) old next
 one_block block old now next was is =
@@ -60,7 +60,7 @@ one_block block old now next was is =
     (λ image left. left ≡ blocks_erased (block + 1) image) old now next was is
     (λ image cells left e f. f ∙ ap (block_filled block 255) e ∙ block_more block image)
 
--- after the last
+-- what is told after the last block is erased
 pub last_block : (block n : ℕ) (old now : Option (List ℕ)) → 4096 * block ≡ n → IfSome old (λ image. length image ≡ n) → AreErased block old now
     → Leaves (λ _ left. left ≡ replicate n 255) old now
 last_block block n None now e size was = was

@@ -29,7 +29,7 @@ module _ (at count byte : ℕ) (image : List ℕ) (h : at + count ≤ length ima
   front : length (take at image) ≡ at
   front = length-take-le at image (omega arith)
 
-  -- and so have the front and the part
+  -- the front and the part have their length together
   both : length (take at image ++ replicate count byte) ≡ at + count
   both = length-append (take at image) (replicate count byte) ∙ omega (arith, front, length-replicate count byte)
 
@@ -44,7 +44,7 @@ module _ (at count byte : ℕ) (image : List ℕ) (h : at + count ≤ length ima
       ap (take at) (append_assoc (take at image) (replicate count byte) (drop (at + count) image))
       ∙ take_at (take at image) (replicate count byte ++ drop (at + count) image) at front
 
-  -- and so does what stands behind it
+  -- what stands behind the part stays
   filled-behind : drop (at + count) (filled at count byte image) ≡ drop (at + count) image
   filled-behind = drop_at (take at image ++ replicate count byte) (drop (at + count) image) (at + count) both
 

@@ -15,7 +15,7 @@ use Rattle.flash_dev.proofs.Cleared.{and_byte}
 fresh_byte : (byte : ℕ) → byte < 256 → bit_and 255 byte ≡ byte
 fresh_byte byte h = and_comm 255 byte ∙ and_byte byte h
 
--- and so do those at the front
+-- erased bytes at the front take any others, and those behind stay
 fresh_front : (bytes rest : List ℕ) → list_all (λ b. nat_lt b 256) bytes ≡ true → cleared (replicate (length bytes) 255 ++ rest) bytes ≡ bytes ++ rest
 fresh_front [] rest all = refl
 fresh_front (byte ∷ bytes) rest all =
@@ -31,7 +31,7 @@ fresh_bytes n m bytes all size =
     ∙ ap (λ list. cleared list bytes) (sym (replicate-append-replicate (length bytes) m 255))
     ∙ fresh_front bytes (replicate m 255) all
 
--- each is one
+-- each of the blank image's headers is of bytes below 256
 headers_bytes : list_all (λ b. nat_lt b 256) blank_headers ≡ true
 unfolding blank_headers
 headers_bytes = refl
@@ -41,7 +41,7 @@ blank_fresh : cleared (replicate image_size 255) blank_headers ≡ blank_image
 unfolding blank_image
 blank_fresh = fresh_bytes image_size 130972 blank_headers headers_bytes (ap (λ n. n + 130972) length-blank_headers)
 
--- so is the image in which they are programmed
+-- an erased image in which the headers are programmed is the blank image
 pub programmed_blank : (headers image left : List ℕ) → headers ≡ blank_headers → image ≡ replicate image_size 255 → left ≡ programmed 0 headers image
     → left ≡ blank_image
 programmed_blank headers image left same erased is = is ∙ ap (λ list. cleared list headers) erased ∙ ap (cleared (replicate image_size 255)) same ∙ blank_fresh

@@ -11,7 +11,7 @@ use Rattle.flash_dev.specs.Geometry.{are, blocks_check, both_checks, bytes_at, h
 pub record IsNoSize (r : Result (Unit {0}) ImageFault) : Type 0 where
   pub none : (have want : ℕ) → r ≡ Err (ImageSize have want) → ⊥
 
--- all good refuses none
+-- a check that accepts refuses no length
 good_is_none : IsNoSize (Ok tt)
 good_is_none = record { none = λ have want e. cc }
 
@@ -35,7 +35,7 @@ volume_is_none first =
     let second = tried_is_none (is_volume_length (number_at 32 8 first)) (NotAVolume 32) _ (λ have want e. cc) third in
     tried_is_none (are (bytes_at 16 16 first) SYSTEM_NV_DATA_GUID) (NotAVolume 16) _ (λ have want e. cc) second
 
--- nor do those of its blocks
+-- the checks of its blocks refuse none
 blocks_is_none : (first : List ℕ) → IsNoSize (blocks_check first)
 unfolding blocks_check
 blocks_is_none first =
@@ -43,12 +43,12 @@ blocks_is_none first =
     let second = tried_is_none (number_at 56 4 first == number_at 32 8 first / 4096) (NotAVolume 56) _ (λ have want e. cc) last in
     tried_is_none (number_at 60 4 first == 4096) (BlockSize (number_at 60 4 first)) _ (λ have want e. cc) second
 
--- nor does that of its sum
+-- the check of its sum refuses none
 sum_is_none : (first : List ℕ) → IsNoSize (sum_check first)
 unfolding sum_check
 sum_is_none first = tried_is_none (header_sum first == 0) (BadSum (header_sum first)) (Ok tt) (λ have want e. cc) good_is_none
 
--- nor do those of the store's header
+-- the checks of the store's header refuse none
 store_is_none : (first : List ℕ) → IsNoSize (store_check first)
 unfolding store_check
 store_is_none first =
@@ -77,7 +77,7 @@ unfolding image_geometry
 wrong_size None size law other = tt
 wrong_size (Some image) size law other = rw (ne_eqb (length image) 131072 (λ e. other (sym law ∙ e)), law) refl
 
--- else its headers decide
+-- an image of the right length is decided by its headers
 pub right_size : (told : Option (List ℕ)) (size : ℕ) (first : List ℕ) → IfSome told (λ image. length image ≡ size) → size ≡ 131072
     → IfSome told (λ image. first ≡ take 100 image) → IfSome told (λ image. geometry_of first ≡ image_geometry image)
 unfolding image_geometry

@@ -1,3 +1,4 @@
+pub mod PairedUnits
 pub mod Keys
 pub mod Steps
 pub mod Sessions

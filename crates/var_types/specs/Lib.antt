@@ -1,3 +1,4 @@
+pub mod Layout
 pub mod Guid
 pub mod Units
 pub mod Name

@@ -1,12 +1,11 @@
 use Rattle.std.specs.Prelude.{ℕ, ◌+◌, ◌*◌, ◌%◌, ◌==◌, ◌&&◌, ◌||◌, not, Bool, true, false, List, [], ◌∷◌, take, drop, if◌then◌else◌, Option, Some, None, find, reverse, Result, Ok, Err}
 use Rattle.std.specs.BTreeMap.{is_at}
 use Rattle.std.specs.Option.{option_map, option_or}
-use Rattle.var_types.specs.declared.attributes.TheConstants.{NON_VOLATILE}
 use Rattle.var_types.specs.declared.key.Key.{Key}
 use Rattle.var_types.specs.declared.name.NameFault.{NameFault}
 use Rattle.var_types.specs.declared.record.Record.{Record}
 use Rattle.var_types.specs.declared.variable.Variable.{Variable}
-use Rattle.var_types.specs.Attributes.{has}
+use Rattle.var_types.specs.Attributes.{has, non_volatile_bit}
 use Rattle.var_types.specs.Key.{key_cmp}
 use Rattle.var_types.specs.Name.{name_check}
 use Rattle.var_types.specs.Record.{Form, header_size}
@@ -77,7 +76,7 @@ live_standing form bytes r (Some added) = live_named form bytes r added (name_in
 -- name, or where the store is the non-volatile one and its attributes are not (EDK II, FindVariableEx)
 unfoldable pub live_of : Form → Bool → List ℕ → Record → Option (Bool × Live)
 live_of form non_volatile bytes r =
-    if r.whole && (not non_volatile || has r.header.attributes NON_VOLATILE) then live_standing form bytes r (standing r.header.state) else None
+    if r.whole && (not non_volatile || has r.header.attributes non_volatile_bit) then live_standing form bytes r (standing r.header.state) else None
 
 abbrev pub with_live : Option (Bool × Live) → List (Bool × Live) → List (Bool × Live)
 with_live None lives = lives

@@ -1,6 +1,7 @@
 use Rattle.std.specs.Prelude.{ℕ, ◌==◌, List, length, nat_lt, if◌then◌else◌, Option, Some, None, Result, Ok, Err, position}
 use Rattle.var_types.specs.declared.name.NameFault.{NameFault}
 use Rattle.var_types.specs.declared.name.NameFault.TheVariants.{Empty, TooLong, InnerNul}
+use Rattle.var_types.specs.Layout.{longest_name}
 
 -- a name with a 0 at a place is ill-formed
 abbrev pub nul_check : Option ℕ → Result (Unit {0}) NameFault
@@ -11,5 +12,5 @@ nul_check (Some at) = Err (InnerNul at)
 abbrev pub name_check : List ℕ → Result (Unit {0}) NameFault
 name_check units =
     if length units == 0 then Err Empty
-    else if nat_lt 512 (length units) then Err (TooLong (length units))
+    else if nat_lt longest_name (length units) then Err (TooLong (length units))
     else nul_check (position (λ unit. unit == 0) units)

@@ -22,7 +22,7 @@ align4 n = (n + 3) / 4 * 4
 abbrev pub room_of : Key → Variable → ℕ
 room_of key variable = align4 (record_size key.name variable.bytes)
 
--- the room of a store's records: 57,344 or 65,536 bytes less the headers before them (this project's own)
+-- the room of a store's records: what its headers leave of its bytes (this project's own)
 abbrev pub room_limit : Store → ℕ
 room_limit NonVolatile = 57244
 room_limit Volatile = 65508

@@ -12,6 +12,7 @@ use Rattle.var_types.specs.declared.reply.SetReply.TheVariants.{Ok as Changed, S
 use Rattle.var_types.specs.declared.variable.Variable.{Variable}
 use Rattle.var_types.specs.Attributes.{has_access, store_of}
 use Rattle.var_types.specs.Key.{key_cmp, key_of}
+use Rattle.var_types.specs.Layout.{largest_record}
 use Rattle.var_types.specs.Name.{name_check}
 use Rattle.var_types.specs.Room.{record_size, room_limit, room_needed}
 use Rattle.var_types.specs.State.{State, stored_at}
@@ -70,8 +71,8 @@ set_stored state call (Some variable) =
 unfoldable pub set_named : State → SetCall → Result (Unit {0}) NameFault → SetReply × State
 set_named state call (Err fault) = refused state (Name fault)
 set_named state call (Ok u) =
-    if nat_lt 33792 (record_size call.name call.bytes)
-    then refused state (Size (record_size call.name call.bytes) 33792)
+    if nat_lt largest_record (record_size call.name call.bytes)
+    then refused state (Size (record_size call.name call.bytes) largest_record)
     else set_stored state call (stored_at state (set_key call))
 
 -- the set rule: the reply of SetVariable and the state that it leaves, by the first case that holds (UEFI 2.10, 8.2.3; the order is

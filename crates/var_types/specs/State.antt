@@ -1,11 +1,10 @@
 use Rattle.std.specs.Prelude.{ℕ, Bool, true, false, List, [], Option, Some, None, if◌then◌else◌, ◌&&◌, not, IsSome}
 use Rattle.std.specs.BTreeMap.{is_at}
 use Rattle.std.specs.Map.{lookup}
-use Rattle.var_types.specs.declared.attributes.TheConstants.{RUNTIME_ACCESS}
 use Rattle.var_types.specs.declared.key.Key.{Key}
 use Rattle.var_types.specs.declared.policy.Policy.{Policy}
 use Rattle.var_types.specs.declared.variable.Variable.{Variable}
-use Rattle.var_types.specs.Attributes.{has}
+use Rattle.var_types.specs.Attributes.{has, runtime_access_bit}
 use Rattle.var_types.specs.Key.{key_cmp}
 
 -- the state of the service: its variables by key, in key order; its policies in order of registration, whether policy is on and
@@ -39,7 +38,7 @@ stored_at state key = lookup (is_at (key_cmp key)) state.variables
 -- a stored variable as callers see it: at runtime one without runtime access is hidden (UEFI 2.10, 8.2.1)
 abbrev pub seen_at : Bool → Option Variable → Option Variable
 seen_at runtime None = None
-seen_at runtime (Some variable) = if runtime && not (has variable.attributes RUNTIME_ACCESS) then None else Some variable
+seen_at runtime (Some variable) = if runtime && not (has variable.attributes runtime_access_bit) then None else Some variable
 
 -- what callers see at a key (UEFI 2.10, 8.2.1)
 abbrev pub visible_at : State → Key → Option Variable

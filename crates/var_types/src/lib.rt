@@ -14,6 +14,7 @@ mod policy;
 mod reason;
 mod record;
 mod reply;
+mod room;
 mod stamp;
 mod store;
 #[cfg(test)]
@@ -37,8 +38,9 @@ pub use policy::{Lock, Policy};
 pub use reason::SetReason;
 pub use record::Record;
 pub use reply::{GetReply, NextReply, Reply, SetReply};
+pub use room::{LARGEST_RECORD, align4, record_size, room_of};
 pub use stamp::Stamp;
 pub use store::Store;
-pub use units::{Units, UnitsFault};
+pub use units::{MOST_UNITS, Units, UnitsFault};
 pub use variable::Variable;
 pub use verdict::Verdict;

@@ -1,3 +1,5 @@
+ghost use Rattle.std.specs.Prelude.{◌≡◌};
+
 use crate::{Bytes, Key, SetReason};
 
 /// What GetVariable answers.
@@ -40,4 +42,30 @@ pub enum Reply {
     Get(GetReply),
     Next(NextReply),
     Set(SetReply),
+}
+
+impl Reply {
+    ghost use Rattle.var_types.specs.Step.{is_change, lacks_memory};
+
+    /// Whether it says that its call changed the state.
+    pub fn is_change(&self) -> bool
+        ensures { result ≡ is_change self.now }
+    {
+        match self {
+            Reply::Set(SetReply::Ok) => true,
+            _ => false,
+        }
+    }
+
+    /// Whether it says that its call was out of memory.
+    pub fn lacks_memory(&self) -> bool
+        ensures { result ≡ lacks_memory self.now }
+    {
+        match self {
+            Reply::Get(GetReply::OutOfMemory) => true,
+            Reply::Next(NextReply::OutOfMemory) => true,
+            Reply::Set(SetReply::OutOfMemory) => true,
+            _ => false,
+        }
+    }
 }

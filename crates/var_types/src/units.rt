@@ -1,10 +1,13 @@
-ghost use Rattle.std.specs.Prelude.{◌≡◌, ◌==◌, ◌≤◌, length, IfOk, OnOk, IfErr};
+ghost use Rattle.std.specs.Prelude.{◌≡◌, ◌==◌, ◌≤◌, length, map, IfOk, OnOk, IfErr};
 ghost use Rattle.std.specs.Cmp.{partial_order_from_own_ties};
 ghost use Rattle.std.specs.Cmp.Lexicographic.{slice_cmp};
 ghost use Rattle.std.specs.Cmp.Rules.{comparing};
+ghost use Rattle.std.specs.Int.{from_le_bytes, w16};
 ghost use Rattle.std.specs.Ordering.{nat_cmp, as_partial_cmp};
 ghost use Rattle.std.proofs.Common.{rules};
 ghost use Rattle.var_types.specs.declared.units.UnitsFault.TheVariants.{OutOfMemory};
+ghost use Rattle.var_types.specs.Layout.{most_units};
+ghost use Rattle.var_types.specs.Live.{units_in};
 ghost use Rattle.var_types.specs.Units.{RefusesUnits};
 ghost use lib.Pointwise.{pointwise};
 
@@ -41,18 +44,19 @@ pub struct Units {
 
 impl Model for Units {
     ghost use Rattle.std.specs.Prelude.{ℕ, List, length, ◌≤◌};
+    ghost use Rattle.var_types.specs.Layout.{most_units};
 
     ghost Value = { List ℕ };
 
     ghost view = { λ u. u.items.items };
 
-    ghost invariant = { λ u. length u.items.items ≤ 1024 };
+    ghost invariant = { λ u. length u.items.items ≤ most_units };
 }
 
 impl Units {
     pub fn new(alloc: Global, units: &[u16]) -> Result<Self, UnitsFault>
         ensures ok { IfOk result (λ u. u ≡ units.now) }
-        ensures limit { OnOk result (length units.now ≤ 1024) }
+        ensures limit { OnOk result (length units.now ≤ most_units) }
         ensures err { IfErr result (RefusesUnits units.now) }
     {
         if units.len() > MOST_UNITS {
@@ -67,18 +71,39 @@ impl Units {
 
     /// The units of a vector, without a copy.
     pub fn from_vec(items: Vec<u16>) -> Self
-        requires { length items.items ≤ 1024 }
+        requires { length items.items ≤ most_units }
         ensures { result ≡ items.items }
     {
         Units { items }
     }
 
+    /// The units that bytes are, low byte first; a last odd byte is none.
+    #[tactic(auto, using(crate::proofs::PairedUnits::units_of_pairs))]
+    pub fn from_le_bytes(alloc: Global, bytes: &[u8]) -> Result<Self, AllocError>
+        requires { length (units_in bytes.now) ≤ most_units }
+        ensures { IfOk result (λ units. units ≡ units_in bytes.now) }
+    {
+        let (pairs, _) = bytes.as_chunks::<2>();
+        let items = numbers_of(alloc, pairs)?;
+        Ok(Units { items })
+    }
+
     pub fn as_slice(&self) -> &[u16]
         ensures items { result.now ≡ self.now }
-        ensures limit { length self.now ≤ 1024 }
+        ensures limit { length self.now ≤ most_units }
     {
         &self.items
     }
+}
+
+// The numbers that pairs of bytes are, low byte first.
+fn numbers_of(alloc: Global, pairs: &[[u8; 2]]) -> Result<Vec<u16>, AllocError>
+    ensures { IfOk result (λ numbers. numbers.items ≡ map (from_le_bytes w16) pairs.now) }
+{
+    pairs
+        .iter()
+        .map(|pair| u16::from_le_bytes(*pair))
+        .collect(alloc)
 }
 
 impl Clone for Units {

@@ -1,8 +1,8 @@
 //! Where the program's bytes come from and go to: a source and a sink as contracts see them, in memory and over std's streams.
 #![tactic(auto)]
 
+mod call_numbers;
 mod failed;
-mod listed;
 mod mem_sink;
 mod mem_source;
 mod sink;

@@ -1,9 +1,9 @@
-ghost use Rattle.std.specs.Prelude.{◌≡◌, ◌≤◌, ◌<◌, ◌-◌, ◌++◌, [], ◌⊎◌, ◌↔◌, ℕ, List, Option, Some, length, take, is_some, vec_len, IsErr, IfOk, OnOk, OnErr, Contains};
+ghost use Rattle.std.specs.Prelude.{◌≡◌, ◌≤◌, ◌<◌, ◌-◌, ◌++◌, [], ◌⊎◌, ◌↔◌, Some, length, take, is_some, vec_len, IsErr, OnOk, OnErr, Contains};
 ghost use Rattle.std.specs.Io.KnownBytes.{Appends};
-ghost use Rattle.outside.specs.Faults.{HasRisen, one_more};
+ghost use Rattle.outside.specs.Faults.{HasCause, one_more};
 ghost use Rattle.outside.specs.Written.{AppendsPart};
 
-use crate::listed::is_listed;
+use crate::call_numbers::is_listed;
 use crate::{Failed, Sink};
 use std::marker::Model;
 
@@ -59,7 +59,7 @@ impl MemSink {
 impl Sink for MemSink {
     ghost holds = { λ s. Some s.held };
 
-    ghost faults = { λ s. s.faults };
+    ghost fault_count = { λ s. s.faults };
 
     /// Appends the bytes, and fails exactly where this call's number is listed or they don't fit; then it holds what it held.
     fn write(&mut self, bytes: &[u8]) -> Result<(), Failed>
@@ -70,9 +70,7 @@ impl Sink for MemSink {
         ensures ok { OnOk result (Appends (Some self.old.held) (Some self.new.held) bytes.now) }
         ensures part { OnErr result (AppendsPart (Some self.old.held) (Some self.new.held) bytes.now) }
         ensures told { is_some (Some self.new.held) ≡ is_some (Some self.old.held) }
-        ensures counted { OnOk result (self.new.faults ≡ self.old.faults) }
-        ensures failed { OnErr result (HasRisen self.old.faults self.new.faults) }
-        ensures never_falls { self.old.faults ≤ self.new.faults }
+        ensures cause { HasCause self.old.faults self.new.faults result }
     {
         let call = self.calls;
         self.calls = call.saturating_add(1);

@@ -1,8 +1,8 @@
-ghost use Rattle.std.specs.Prelude.{◌≡◌, ◌≤◌, ◌<◌, ◌↔◌, ℕ, List, Option, Some, length, take, drop, min, is_some, IsErr, IfOk, OnOk, OnErr, Contains};
+ghost use Rattle.std.specs.Prelude.{◌≡◌, ◌≤◌, ◌<◌, ◌↔◌, Some, length, take, drop, min, is_some, IsErr, IfOk, OnErr, Contains};
 ghost use Rattle.std.specs.Io.KnownBytes.{Consumes, IsAtEnd};
-ghost use Rattle.outside.specs.Faults.{HasRisen, one_more};
+ghost use Rattle.outside.specs.Faults.{HasCause, one_more};
 
-use crate::listed::is_listed;
+use crate::call_numbers::is_listed;
 use crate::{Failed, Source};
 use std::marker::Model;
 
@@ -50,7 +50,7 @@ impl MemSource {
 impl Source for MemSource {
     ghost left = { λ s. Some s.left };
 
-    ghost faults = { λ s. s.faults };
+    ghost fault_count = { λ s. s.faults };
 
     /// Reads as much as there is and fits, and fails exactly where this call's number is listed.
     fn read(&mut self, into: &mut [u8]) -> Result<usize, Failed>
@@ -64,9 +64,7 @@ impl Source for MemSource {
         ensures end { IfOk result (λ n. n ≡ 0 → 0 < length into.new → IsAtEnd (Some self.new.left)) }
         ensures kept { OnErr result (Some self.new.left ≡ Some self.old.left) }
         ensures told { is_some (Some self.new.left) ≡ is_some (Some self.old.left) }
-        ensures counted { OnOk result (self.new.faults ≡ self.old.faults) }
-        ensures failed { OnErr result (HasRisen self.old.faults self.new.faults) }
-        ensures never_falls { self.old.faults ≤ self.new.faults }
+        ensures cause { HasCause self.old.faults self.new.faults result }
     {
         let call = self.calls;
         self.calls = call.saturating_add(1);

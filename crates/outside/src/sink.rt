@@ -1,6 +1,6 @@
-ghost use Rattle.std.specs.Prelude.{◌≡◌, ◌≤◌, ℕ, List, Option, is_some, OnOk, OnErr};
+ghost use Rattle.std.specs.Prelude.{◌≡◌, ℕ, List, Option, is_some, OnOk, OnErr};
 ghost use Rattle.std.specs.Io.KnownBytes.{Appends};
-ghost use Rattle.outside.specs.Faults.{HasRisen};
+ghost use Rattle.outside.specs.Faults.{HasCause};
 ghost use Rattle.outside.specs.Written.{AppendsPart};
 
 use crate::Failed;
@@ -11,7 +11,7 @@ pub trait Sink {
     ghost holds: { Self → Option (List ℕ) };
 
     /// How many of its calls have failed.
-    ghost faults: { Self → ℕ };
+    ghost fault_count: { Self → ℕ };
 
     /// Appends all the bytes, or, where it fails, a front of them.
     fn write(&mut self, bytes: &[u8]) -> Result<(), Failed>
@@ -21,7 +21,5 @@ pub trait Sink {
         // Whether a sink tells its bytes is changed by no call.
         ensures told { is_some (holds self.new) ≡ is_some (holds self.old) }
 
-        ensures counted { OnOk result (faults self.new ≡ faults self.old) }
-        ensures failed { OnErr result (HasRisen (faults self.old) (faults self.new)) }
-        ensures never_falls { faults self.old ≤ faults self.new };
+        ensures cause { HasCause (fault_count self.old) (fault_count self.new) result };
 }

@@ -1,6 +1,6 @@
-ghost use Rattle.std.specs.Prelude.{◌≡◌, ◌<◌, ◌≤◌, ℕ, List, Option, length, take, is_some, IfOk, OnOk, OnErr};
+ghost use Rattle.std.specs.Prelude.{◌≡◌, ◌<◌, ◌≤◌, ℕ, List, Option, length, take, is_some, IfOk, OnErr};
 ghost use Rattle.std.specs.Io.KnownBytes.{Consumes, IsAtEnd};
-ghost use Rattle.outside.specs.Faults.{HasRisen};
+ghost use Rattle.outside.specs.Faults.{HasCause};
 
 use crate::Failed;
 
@@ -10,7 +10,7 @@ pub trait Source {
     ghost left: { Self → Option (List ℕ) };
 
     /// How many of its calls have failed.
-    ghost faults: { Self → ℕ };
+    ghost fault_count: { Self → ℕ };
 
     /// Reads some bytes into the front of a piece, and says how many. At `Ok` the rest of the piece may hold anything.
     fn read(&mut self, into: &mut [u8]) -> Result<usize, Failed>
@@ -22,7 +22,5 @@ pub trait Source {
         // Whether a source tells its bytes is changed by no call.
         ensures told { is_some (left self.new) ≡ is_some (left self.old) }
 
-        ensures counted { OnOk result (faults self.new ≡ faults self.old) }
-        ensures failed { OnErr result (HasRisen (faults self.old) (faults self.new)) }
-        ensures never_falls { faults self.old ≤ faults self.new };
+        ensures cause { HasCause (fault_count self.old) (fault_count self.new) result };
 }

@@ -1,6 +1,6 @@
-ghost use Rattle.std.specs.Prelude.{◌≡◌, ◌≤◌, None, OnOk, OnErr};
+ghost use Rattle.std.specs.Prelude.{◌≡◌, None, OnOk, OnErr};
 ghost use Rattle.std.specs.Io.KnownBytes.{Appends};
-ghost use Rattle.outside.specs.Faults.{HasRisen, one_more};
+ghost use Rattle.outside.specs.Faults.{HasCause, one_more};
 ghost use Rattle.outside.specs.Written.{AppendsPart};
 
 use crate::{Failed, Sink};
@@ -34,7 +34,7 @@ impl<T: Write + Drop> StdSink<T> {
 impl<T: Write + Drop> Sink for StdSink<T> {
     ghost holds = { λ _. None };
 
-    ghost faults = { λ s. s.faults };
+    ghost fault_count = { λ s. s.faults };
 
     /// Calls the writer until it has taken all, and fails where a call of it fails or takes nothing.
     fn write(&mut self, bytes: &[u8]) -> Result<(), Failed>
@@ -43,9 +43,7 @@ impl<T: Write + Drop> Sink for StdSink<T> {
         ensures taken_part { OnErr result (AppendsPart self.old.known self.new.known bytes.now) }
         ensures counted_one { OnErr result (self.new.faults ≡ one_more self.old.faults) }
 
-        ensures counted { OnOk result (self.new.faults ≡ self.old.faults) }
-        ensures failed { OnErr result (HasRisen self.old.faults self.new.faults) }
-        ensures never_falls { self.old.faults ≤ self.new.faults }
+        ensures cause { HasCause self.old.faults self.new.faults result }
     {
         let outcome = write_whole(&mut self.writer, bytes);
         if outcome.is_err() {

@@ -1,6 +1,6 @@
-ghost use Rattle.std.specs.Prelude.{◌≡◌, ◌≤◌, None, length, IfOk, OnOk, OnErr};
+ghost use Rattle.std.specs.Prelude.{◌≡◌, ◌≤◌, None, length, IfOk, OnErr};
 ghost use Rattle.std.specs.Io.KnownBytes.{ReadConsumes};
-ghost use Rattle.outside.specs.Faults.{HasRisen, one_more};
+ghost use Rattle.outside.specs.Faults.{HasCause, one_more};
 
 use crate::{Failed, Source};
 use std::io::Read;
@@ -33,7 +33,7 @@ impl<T: Read + Drop> StdSource<T> {
 impl<T: Read + Drop> Source for StdSource<T> {
     ghost left = { λ _. None };
 
-    ghost faults = { λ s. s.faults };
+    ghost fault_count = { λ s. s.faults };
 
     /// Makes one call of the reader, and fails where that fails.
     fn read(&mut self, into: &mut [u8]) -> Result<usize, Failed>
@@ -42,9 +42,7 @@ impl<T: Read + Drop> Source for StdSource<T> {
         ensures counted_one { OnErr result (self.new.faults ≡ one_more self.old.faults) }
 
         ensures bound { IfOk result (λ n. n ≤ length into.new) }
-        ensures counted { OnOk result (self.new.faults ≡ self.old.faults) }
-        ensures failed { OnErr result (HasRisen self.old.faults self.new.faults) }
-        ensures never_falls { self.old.faults ≤ self.new.faults }
+        ensures cause { HasCause self.old.faults self.new.faults result }
     {
         match self.reader.read(into) {
             Ok(count) => Ok(count),

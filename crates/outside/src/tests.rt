@@ -152,10 +152,18 @@ fn a_reader_that_fails_once_goes_on(rt: HostRuntime) {
         cut: Some(1),
     };
     let mut source = StdSource::on(reader);
-    let answers: [Option<&[u8]>; 5] = [Some(b"a"), None, Some(b"b"), Some(b"c"), Some(b"")];
-    for want in answers {
+    // The reader is called for an empty piece too.
+    let answers: [(usize, Option<&[u8]>); 6] = [
+        (4, Some(b"a")),
+        (0, None),
+        (0, Some(b"")),
+        (4, Some(b"b")),
+        (4, Some(b"c")),
+        (4, Some(b"")),
+    ];
+    for (size, want) in answers {
         let mut piece = [0u8; 4];
-        assert_eq!(rt; next_of(&mut source, &mut piece), want);
+        assert_eq!(rt; next_of(&mut source, &mut piece[..size]), want);
     }
 }
 

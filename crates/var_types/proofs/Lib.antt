@@ -5,6 +5,7 @@ pub mod Sessions
 pub mod Orders
 pub mod Soundness
 pub mod Walks
+pub mod Pieces
 pub mod Guids
 pub mod Records
 pub mod Entries

@@ -1,4 +1,5 @@
 pub mod Layout
+pub mod Put
 pub mod Guid
 pub mod Units
 pub mod Name
@@ -18,3 +19,4 @@ pub mod Record
 pub mod Live
 pub mod Region
 pub mod Kept
+pub mod Texts

@@ -1,8 +1,8 @@
-ghost use Rattle.std.specs.Prelude.{◌≡◌, ◌++◌, IfOk, OnOk, OnErr};
+ghost use Rattle.std.specs.Prelude.{◌≡◌};
 ghost use Rattle.uuid.specs.Parts.{swap_fields};
 ghost use Rattle.uuid.specs.Text.{parsed};
 
-use crate::{Bytes, OutOfMemory};
+use crate::Put;
 use thiserror::Error;
 use uuid::Uuid;
 
@@ -40,16 +40,15 @@ impl Guid {
         }
     }
 
+    /// Puts the 36 characters of the hyphenated form in lower case.
     #[tactic(auto, unfolding(crate::specs::Guid::guid_text))]
-    /// Appends the 36 characters of the hyphenated form in lower case.
-    pub fn write(&self, out: &mut Bytes) -> Result<(), OutOfMemory>
-        ensures ok { OnOk result (out.new ≡ out.old ++ guid_text self.now) }
-        ensures err { OnErr result (out.new ≡ out.old) }
+    pub fn write<P: Put>(&self, out: &mut P)
+        ensures { P.Puts out.old out.new (guid_text self.now) }
     {
         let mut buffer = Uuid::encode_buffer();
         let text = Uuid::from_bytes_le(self.bytes)
             .hyphenated()
             .encode_lower(&mut buffer);
-        out.append(text.as_bytes())
+        out.put(text.as_bytes());
     }
 }

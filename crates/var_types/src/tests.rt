@@ -47,10 +47,11 @@ fn guids_are_read_in_every_form(rt: HostRuntime) {
 
 #[test]
 fn a_guid_is_written_in_lower_case(rt: HostRuntime) -> Result<(), Fail> {
-    let mut out = Bytes::copy(rt.alloc(), b"<")?;
-    Guid { bytes: GLOBAL }.write(&mut out)?;
+    let mut out = TextBuffer::new(rt.alloc());
+    out.put(b"<");
+    Guid { bytes: GLOBAL }.write(&mut out);
     assert_eq!(rt;
-        out.as_slice(),
+        out.finish()?.as_slice(),
         b"<8be4df61-93ca-11d2-aa0d-00e098032b8c".as_slice()
     );
     Ok(())

@@ -1,7 +1,9 @@
 pub mod PairedUnits
 pub mod Keys
 pub mod Steps
+pub mod ReplyKinds
 pub mod Sessions
+pub mod LegalSessions
 pub mod Orders
 pub mod Soundness
 pub mod Walks

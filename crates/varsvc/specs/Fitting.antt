@@ -4,8 +4,8 @@ use Rattle.var_types.specs.declared.call.Call.{Call}
 use Rattle.var_types.specs.declared.call.Call.TheVariants as call
 use Rattle.var_types.specs.declared.name.NameFault.{NameFault}
 use Rattle.var_types.specs.declared.name.NameFault.TheVariants as fault
-use Rattle.var_types.specs.declared.reason.SetReason.{SetReason}
-use Rattle.var_types.specs.declared.reason.SetReason.TheVariants as reason
+use Rattle.var_types.specs.declared.set_reason.SetReason.{SetReason}
+use Rattle.var_types.specs.declared.set_reason.SetReason.TheVariants as reason
 use Rattle.var_types.specs.declared.reply.GetReply.{GetReply}
 use Rattle.var_types.specs.declared.reply.GetReply.TheVariants as get
 use Rattle.var_types.specs.declared.reply.NextReply.{NextReply}

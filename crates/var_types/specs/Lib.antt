@@ -15,6 +15,9 @@ pub mod Session
 pub mod Laws
 pub mod Walk
 pub mod Record
+pub mod RecordState
 pub mod Live
+pub mod Chosen
+pub mod Least
 pub mod Region
 pub mod Kept

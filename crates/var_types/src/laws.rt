@@ -1,5 +1,7 @@
 //! Laws of the definitions: each is the contract of a function that does nothing.
-ghost use Rattle.std.specs.Prelude.{ℕ, []};
+ghost use Rattle.std.specs.Prelude.{◌≡◌, ℕ, []};
+ghost use Rattle.var_types.specs.declared.key.Key.{Key};
+ghost use Rattle.var_types.specs.Key.{key_cmp};
 ghost use Rattle.var_types.specs.Laws.{SteppedSessionsAreLegal, ChangesLeaveTheState, SameChangesLeaveTheSameState, GuidsReadBack};
 ghost use Rattle.var_types.specs.Laws.{BytesHaveRecords, BytesHaveOneList, MapsStandInKeyOrder, MapsHoldWhatCounts, WhatCountsDecidesTheMap};
 ghost use Rattle.var_types.specs.State.{start};
@@ -43,4 +45,9 @@ pub fn maps_hold_what_counts()
     ensures ordered { MapsStandInKeyOrder }
     ensures holds { MapsHoldWhatCounts }
     ensures same { WhatCountsDecidesTheMap }
+{}
+
+/// Keys compare as the definition of their order says.
+pub fn keys_are_ordered_as_defined()
+    ensures { (a b : Key) → ⟦<crate::Key as Ord>⟧.cmp a b ≡ key_cmp a b }
 {}

@@ -11,6 +11,10 @@ pub mod Pieces
 pub mod Guids
 pub mod Records
 pub mod Entries
-pub mod Turns
+pub mod Chosen
 pub mod Maps
+pub mod Lowest
+pub mod FirstKeys
+pub mod FirstShown
+pub mod Passing
 pub mod Least

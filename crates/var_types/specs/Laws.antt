@@ -1,20 +1,20 @@
-use Rattle.std.specs.Prelude.{◌≡◌, ℕ, Bool, List, [], ◌∷◌, ◌++◌, length, map, All, Ok}
+use Rattle.std.specs.Prelude.{◌≡◌, ℕ, List, [], ◌∷◌, ◌++◌, length, map, All, Ok}
 use Rattle.std.specs.BTreeMap.{is_at}
 use Rattle.std.specs.List.Sorted.{IsStrictlySortedBy}
 use Rattle.std.specs.Map.{keys_of, lookup}
-use Rattle.std.specs.Option.{option_map}
 use Rattle.var_types.specs.declared.answered.Answered.{Answered}
 use Rattle.var_types.specs.declared.call.Call.{Call}
 use Rattle.var_types.specs.declared.guid.Guid.{Guid}
 use Rattle.var_types.specs.declared.key.Key.{Key}
 use Rattle.var_types.specs.declared.record.Record.{Record}
 use Rattle.var_types.specs.declared.reply.Reply.{Reply}
+use Rattle.var_types.specs.Chosen.{chosen, variable_of}
 use Rattle.var_types.specs.Guid.{IsGuid, guid_of, guid_text}
 use Rattle.var_types.specs.History.{Entry, IsRightAt, run}
 use Rattle.var_types.specs.Key.{key_cmp}
-use Rattle.var_types.specs.Live.{Live, chosen}
+use Rattle.var_types.specs.Live.{Live}
 use Rattle.var_types.specs.Record.{Form, HasRecords, records}
-use Rattle.var_types.specs.Region.{Area, area_lives, map_of, region_map}
+use Rattle.var_types.specs.Region.{Region, region_lives, map_of, region_map}
 use Rattle.var_types.specs.Session.{AreStepped, IsAnsweredAfter, IsLegalSession, changes_from, history_of, state_after}
 use Rattle.var_types.specs.State.{State}
 use Rattle.var_types.specs.Step.{IsOfKind}
@@ -79,18 +79,17 @@ BytesHaveOneList = (form : Form) (bytes : List ℕ) (at : ℕ) (rs : List Record
 
 -- the map of live records stands in strict key order
 abbrev pub MapsStandInKeyOrder : Type 0
-MapsStandInKeyOrder = (ls : List (Bool × Live)) → IsStrictlySortedBy key_cmp (keys_of (map_of ls))
+MapsStandInKeyOrder = (ls : List Live) → IsStrictlySortedBy key_cmp (keys_of (map_of ls))
 
 -- the map of live records has at each key the variable of the record that counts for it, and at no other key one
 abbrev pub MapsHoldWhatCounts : Type 0
 MapsHoldWhatCounts =
-    (ls : List (Bool × Live)) (key : Key)
-    → lookup (is_at (key_cmp key)) (map_of ls) ≡ option_map (λ (live : Live). live.variable) (chosen key ls)
+    (ls : List Live) (key : Key)
+    → lookup (is_at (key_cmp key)) (map_of ls) ≡ variable_of (chosen key ls)
 
 -- the map of a region depends on its live records alone: regions in which the same variable counts for each key have the same map
 abbrev pub WhatCountsDecidesTheMap : Type 0
 WhatCountsDecidesTheMap =
-    (a b : Area)
-    → ((key : Key) → option_map (λ (live : Live). live.variable) (chosen key (area_lives a))
-    ≡ option_map (λ (live : Live). live.variable) (chosen key (area_lives b)))
+    (a b : Region)
+    → ((key : Key) → variable_of (chosen key (region_lives a)) ≡ variable_of (chosen key (region_lives b)))
     → region_map a ≡ region_map b

@@ -16,7 +16,10 @@ pub mod Session
 pub mod Laws
 pub mod Walk
 pub mod Record
+pub mod RecordState
 pub mod Live
+pub mod Chosen
+pub mod Least
 pub mod Region
 pub mod Kept
 pub mod Texts

@@ -1,5 +1,7 @@
 //! Laws of the definitions: each is the contract of a function that does nothing.
-ghost use Rattle.std.specs.Prelude.{ℕ, []};
+ghost use Rattle.std.specs.Prelude.{◌≡◌, ℕ, []};
+ghost use Rattle.var_types.specs.declared.key.Key.{Key};
+ghost use Rattle.var_types.specs.Key.{key_cmp};
 ghost use Rattle.var_types.specs.Laws.{RightRepliesFit, SteppedRepliesFit, SteppedSessionsAreLegal, LegalSessionsGrow, ChangesLeaveTheState};
 ghost use Rattle.var_types.specs.Laws.{SameChangesLeaveTheSameState, GuidsReadBack};
 ghost use Rattle.var_types.specs.Laws.{BytesHaveRecords, BytesHaveOneList, MapsStandInKeyOrder, MapsHoldWhatCounts, WhatCountsDecidesTheMap};
@@ -55,4 +57,9 @@ pub fn maps_hold_what_counts()
     ensures ordered { MapsStandInKeyOrder }
     ensures holds { MapsHoldWhatCounts }
     ensures same { WhatCountsDecidesTheMap }
+{}
+
+/// Keys compare as the definition of their order says.
+pub fn keys_are_ordered_as_defined()
+    ensures { (a b : Key) → ⟦<crate::Key as Ord>⟧.cmp a b ≡ key_cmp a b }
 {}

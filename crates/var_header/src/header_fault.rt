@@ -3,10 +3,10 @@ use thiserror::Error;
 /// No header was read.
 #[derive(Clone, Copy, Debug, PartialEq, Eq, Error)]
 pub enum HeaderFault {
-    /// A header at this place reaches past the end of the bytes.
+    /// A header at this offset reaches past the end of the bytes.
     #[error("a header at {at} reaches past the end")]
     PastEnd { at: u64 },
-    /// The start mark isn't there.
-    #[error("there is no start mark")]
+    /// No StartId stands there.
+    #[error("there is no StartId")]
     NoStart,
 }

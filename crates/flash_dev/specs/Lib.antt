@@ -1,8 +1,9 @@
 pub mod Rules
-pub mod Layout
 pub mod Moments
 pub mod MemFlash
 pub mod Told
 pub mod FileFlash
+pub mod Guids
 pub mod Geometry
 pub mod Blank
+pub mod Formatting

@@ -1,8 +1,8 @@
 ghost use Rattle.std.specs.Prelude.{◌≡◌, ◌↔◌, ◌+◌, ◌*◌, ◌≤◌, None, false, length, IsErr, IsOk, OnOk, OnErr};
-ghost use Rattle.outside.specs.Faults.{HasRisen, one_more};
-ghost use Rattle.flash_dev.specs.Layout.{image_size};
+ghost use Rattle.outside.specs.Faults.{HasCause, one_more};
+ghost use Rattle.var_types.specs.Layout.{block_size, image_size};
 
-use crate::cells::clear_bits;
+use crate::held_bytes::clear_bits;
 use crate::layout::{BLOCK_BYTES, IMAGE_BYTES};
 use crate::{Device, Flash};
 use std::fs::{OpenFile, OpenOptions};
@@ -22,7 +22,7 @@ pub struct FileFlash<T: Read + Write + Seek + OpenFile + Drop> {
 impl<T: Read + Write + Seek + OpenFile + Drop> Model for FileFlash<T> {
     ghost use Rattle.std.specs.Prelude.{◌≡◌, false, is_some};
     ghost use Rattle.flash_dev.specs.FileFlash.{FileState};
-    ghost use Rattle.flash_dev.specs.Layout.{image_size};
+    ghost use Rattle.var_types.specs.Layout.{image_size};
 
     ghost Value = { FileState };
 
@@ -105,10 +105,10 @@ fn program_piece<T: Read + Write + Seek>(
 // Clears bits of a range, piece by piece, so that it takes no memory.
 fn program_range<T: Read + Write + Seek>(file: &mut T, at: u32, bytes: &[u8]) -> io::Result<()> {
     let mut buffer = [0; BLOCK_BYTES];
-    let mut place = u64::from(at);
+    let mut offset = u64::from(at);
     for part in bytes.chunks(BLOCK_BYTES) {
-        program_piece(file, place, part, &mut buffer[..part.len()])?;
-        place += part.len() as u64;
+        program_piece(file, offset, part, &mut buffer[..part.len()])?;
+        offset += part.len() as u64;
     }
     Ok(())
 }
@@ -161,9 +161,7 @@ impl<T: Read + Write + Seek + OpenFile + Drop> Flash for FileFlash<T> {
         ensures counted_one { OnErr result (self.new.faults ≡ one_more self.old.faults) }
 
         ensures size { self.new.size ≡ self.old.size }
-        ensures counted { OnOk result (self.new.faults ≡ self.old.faults) }
-        ensures failed { OnErr result (HasRisen self.old.faults self.new.faults) }
-        ensures never_falls { self.old.faults ≤ self.new.faults }
+        ensures cause { HasCause self.old.faults self.new.faults result }
     {
         let outcome = match &mut self.file {
             Some(file) => read_at(file, u64::from(at), into),
@@ -180,9 +178,7 @@ impl<T: Read + Write + Seek + OpenFile + Drop> Flash for FileFlash<T> {
         ensures counted_one { OnErr result (self.new.faults ≡ one_more self.old.faults) }
 
         ensures size { self.new.size ≡ self.old.size }
-        ensures counted { OnOk result (self.new.faults ≡ self.old.faults) }
-        ensures failed { OnErr result (HasRisen self.old.faults self.new.faults) }
-        ensures never_falls { self.old.faults ≤ self.new.faults }
+        ensures cause { HasCause self.old.faults self.new.faults result }
     {
         let outcome = match &mut self.file {
             Some(file) => program_range(file, at, bytes),
@@ -193,15 +189,13 @@ impl<T: Read + Write + Seek + OpenFile + Drop> Flash for FileFlash<T> {
 
     /// Writes 0xFF over the block.
     fn erase(&mut self, block: u32) -> Result<(), Device>
-        requires { 4096 * block + 4096 ≤ self.old.size }
+        requires { block_size * block + block_size ≤ self.old.size }
         ensures closed { self.old.opened ≡ false → IsErr result }
         ensures opened { self.new.opened ≡ self.old.opened }
         ensures counted_one { OnErr result (self.new.faults ≡ one_more self.old.faults) }
 
         ensures size { self.new.size ≡ self.old.size }
-        ensures counted { OnOk result (self.new.faults ≡ self.old.faults) }
-        ensures failed { OnErr result (HasRisen self.old.faults self.new.faults) }
-        ensures never_falls { self.old.faults ≤ self.new.faults }
+        ensures cause { HasCause self.old.faults self.new.faults result }
     {
         let outcome = match &mut self.file {
             Some(file) => erase_block(file, block),

@@ -2,15 +2,16 @@
 #![tactic(auto)]
 
 mod blank;
-mod cells;
 mod device;
 mod fate;
+mod fated_bytes;
 mod fault_plan;
 mod file_flash;
 mod flash;
 mod geometry;
 mod guids;
 mod headers;
+mod held_bytes;
 mod image_fault;
 mod laws;
 mod layout;

@@ -8,6 +8,10 @@ use Rattle.var_types.specs.Kept.{kept}
 use Rattle.var_types.specs.Layout.{image_size}
 use Rattle.varsvc.specs.FaultLines.{image_line}
 
+-- the image that is told is accepted
+abbrev pub AcceptsImage : Option (List ℕ) → Type 0
+AcceptsImage image = IfSome image (λ bytes. IsOk (image_geometry bytes))
+
 -- this is the listing of the variables that the image keeps that is told, which is accepted and has an image's length
 pub record Lists (image : Option (List ℕ)) (size : ℕ) (text : List ℕ) : Type 0 where
   pub length : size ≡ image_size

@@ -1,7 +1,9 @@
 -- What a call of the program prints and leaves, by what its words ask for and by the status that it ends with.
 use Rattle.std.specs.Prelude.{◌≡◌, ◌≢◌, ◌⊎◌, ℕ, Bool, true, false, List, Option, Result, Ok, Err, IsTrue}
 use Rattle.std.specs.Io.KnownBytes.{Appends, IsAtEnd}
-use Rattle.flash_dev.specs.Blank.{IsFormatLeft, blank_image}
+use Rattle.flash_dev.specs.Blank.{blank_image}
+use Rattle.flash_dev.specs.Formatting.{IsFormatLeft}
+use Rattle.flash_dev.specs.Moments.{Stays}
 use Rattle.flash_dev.specs.Rules.{IsKept, Leaves}
 use Rattle.outside.specs.Faults.{HasRisen}
 use Rattle.outside.specs.Written.{AppendsPart}
@@ -12,6 +14,7 @@ use Rattle.varsvc.specs.declared.usage.UsageFault.{UsageFault}
 use Rattle.varsvc.specs.FaultLines.{device_line, input_line, memory_line, usage_line}
 use Rattle.varsvc.specs.Input.{TakesAtMost, most_read}
 use Rattle.varsvc.specs.Images.{Formats, IsImage, IsNoImage, Lists, RefusesFormat, RefusesList}
+use Rattle.varsvc.specs.Order.{IsRunOrder}
 use Rattle.varsvc.specs.Runs.{IsNoScript, IsScript, RefusesScript, Reports}
 
 -- no text
@@ -168,6 +171,30 @@ pub record LeavesImage (r : Row) (status size : ℕ) (old new : Option (List ℕ
   pub refused : status ≡ 4 → new ≡ old
   pub other_size : size ≢ image_size → new ≡ old
   pub memory : status ≡ 8 → new ≡ old
+
+-- what a call of the program does with its source, its sink and its flash, by what its words ask for (this project's own)
+pub record Performs {S K F : Type 0} (left : S → Option (List ℕ)) (read_faults : S → ℕ) (printed : K → Option (List ℕ)) (write_faults : K → ℕ)
+    (holds : F → Option (List ℕ)) (size flash_faults moment : F → ℕ) (left_since : F → ℕ → List ℕ → Type 0) (asked : Result Order UsageFault)
+    (source source_after : S) (sink sink_after : K) (flash flash_after : F) (status : ℕ) : Type 0 where
+  -- what is printed, with the cause of the status
+  pub prints : Prints (row asked (left source) (holds flash) (size flash)) (record {
+    source_before = read_faults source;
+    source_after = read_faults source_after;
+    sink_before = write_faults sink;
+    sink_after = write_faults sink_after;
+    flash_before = flash_faults flash;
+    flash_after = flash_faults flash_after;
+  }) status (printed sink) (printed sink_after)
+  -- where nothing is to be printed, nothing is written
+  pub quiet : (row asked (left source) (holds flash) (size flash)).prints ≡ false → status ≡ 0 → sink_after ≡ sink
+  -- how much is read: nothing, but by a run
+  pub reads : ReadsInput (row asked (left source) (holds flash) (size flash)) status (left source) (left source_after)
+  pub unread : ¬ IsRunOrder asked → source_after ≡ source
+  -- what becomes of the image, and what a power loss may leave of it
+  pub leaves : LeavesImage (row asked (left source) (holds flash) (size flash)) status (size flash) (holds flash) (holds flash_after)
+  pub at_any_moment : Stays (row asked (left source) (holds flash) (size flash)).leaves moment left_since holds flash flash_after
+  pub unopened : (row asked (left source) (holds flash) (size flash)).opens ≡ false → flash_after ≡ flash
+  pub same_size : size flash_after ≡ size flash
 
 -- no call of what a verb touches failed
 pub record IsCalm (r : Row) (counts : Counts) : Type 0 where

@@ -2,11 +2,12 @@
 ghost use Rattle.std.specs.Prelude.{◌≡◌, true, length};
 ghost use Rattle.flash_dev.specs.Moments.{Stays};
 ghost use Rattle.flash_dev.specs.Rules.{IsKept};
-ghost use Rattle.flash_dev.specs.Blank.{IsFormatLeft};
+ghost use Rattle.flash_dev.specs.Formatting.{IsFormatLeft};
 ghost use Rattle.report_text.specs.Listing.{listing_text};
 ghost use Rattle.var_types.specs.Layout.{headers_size, image_size, volume_size};
 ghost use Rattle.var_types.specs.Record.{Authenticated};
 ghost use Rattle.var_types.specs.Region.{region_map};
+ghost use Rattle.varsvc.specs.Images.{AcceptsImage};
 ghost use Rattle.varsvc.specs.Outcome.{FailsAt, IsText, LeavesImage, format_row, list_row};
 ghost use Rattle.varsvc.specs.Plan.{PlansFault, PlansLine, status_of, text_of};
 

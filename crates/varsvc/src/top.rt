@@ -1,9 +1,8 @@
-ghost use Rattle.std.specs.Prelude.{◌≡◌, ◌≢◌, [], false, Some, IfSome, IsSome};
+ghost use Rattle.std.specs.Prelude.{◌≡◌, ◌≢◌, [], IfSome, IsSome};
 ghost use Rattle.std.specs.Io.KnownBytes.{Appends};
-ghost use Rattle.flash_dev.specs.Moments.{Stays};
 ghost use Rattle.outside.specs.Written.{AppendsPart};
 ghost use Rattle.varsvc.specs.Order.{IsRunOrder, asked};
-ghost use Rattle.varsvc.specs.Outcome.{FailsAt, LeavesImage, Prints, ReadsInput, row};
+ghost use Rattle.varsvc.specs.Outcome.{FailsAt, Performs};
 ghost use Rattle.varsvc.specs.Plan.{status_of, text_of};
 
 use crate::asked_plan::plan_asked;
@@ -36,4 +35,59 @@ pub fn print_plan<K: Sink>(plan: &Plan, out: &mut K) -> u8
         Ok(()) => status_of(plan),
         Err(_) => 5,
     }
+}
+
+// The words are read once, here; what they ask for is one line of the table of verbs.
+fn perform<S: Source, K: Sink, F: Flash>(
+    alloc: Global,
+    words: &[String],
+    script: &mut S,
+    image: F,
+    out: &mut K,
+) -> Done<F>
+    ensures image { IsSome result.image }
+    ensures performs { IfSome result.image (λ after. Performs S.left S.fault_count K.holds K.fault_count F.holds F.size F.fault_count F.moment F.left_since
+        (asked words.now) script.old script.new out.old out.new image after result.status) }
+{
+    let mut image = image;
+    let plan = plan_asked(alloc, words, script, &mut image);
+    let status = print_plan(&plan, out);
+    Done {
+        status,
+        image: Some(image),
+    }
+}
+
+/// The whole program but for running scripts: lists or formats an image as the words ask, or says why they are refused. It reads nothing of
+/// the source. Statuses as of `varsvc`.
+pub fn varsvc_plain<S: Source, K: Sink, F: Flash>(
+    alloc: Global,
+    words: &[String],
+    script: &mut S,
+    image: F,
+    out: &mut K,
+) -> Done<F>
+    requires { ¬ IsRunOrder (asked words.now) }
+    ensures image { IsSome result.image }
+    ensures performs { IfSome result.image (λ after. Performs S.left S.fault_count K.holds K.fault_count F.holds F.size F.fault_count F.moment F.left_since
+        (asked words.now) script.old script.new out.old out.new image after result.status) }
+{
+    perform(alloc, words, script, image, out)
+}
+
+/// The whole program: reads the words, and does as they ask: reads a script from its source and runs it on one processor, of which the image
+/// is not opened yet; or lists or formats the image; and prints the outcome to its sink. Statuses: 0 all was done; 2 the words, 3 the script, 4
+/// the image is refused; 5 the sink, 6 the source, 7 the flash failed; 8 the call is out of memory, or replies of a run are.
+pub fn varsvc<S: Source, K: Sink, F: Flash + Send>(
+    alloc: Global,
+    words: &[String],
+    script: &mut S,
+    image: F,
+    out: &mut K,
+) -> Done<F>
+    ensures image { IsSome result.image }
+    ensures performs { IfSome result.image (λ after. Performs S.left S.fault_count K.holds K.fault_count F.holds F.size F.fault_count F.moment F.left_since
+        (asked words.now) script.old script.new out.old out.new image after result.status) }
+{
+    perform(alloc, words, script, image, out)
 }

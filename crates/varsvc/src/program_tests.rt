@@ -74,6 +74,7 @@ fn a_file_that_is_there_is_not_made_again(rt: HostRuntime) -> Result<(), Fail> {
 }
 
 /// The files of a full disk: those that are made take one block.
+#[derive(Drop)]
 struct FullDisk<'a> {
     rt: &'a HostRuntime,
 }
@@ -185,5 +186,14 @@ fn a_file_that_is_not_whole_is_taken_away(rt: HostRuntime) -> Result<(), Fail> {
     assert_eq!(rt; done.0, 7);
     assert_eq!(rt; done.1.as_slice(), b"device fault\n".as_slice());
     assert!(rt; fs::metadata(&rt, path.as_str()).is_err());
+    Ok(())
+}
+
+#[test]
+fn main_ends_with_the_status(rt: HostRuntime) -> Result<(), Fail> {
+    // The words of the tests ask for nothing.
+    let code = crate::main(rt);
+    let text = format!(in rt.alloc(); "{code:?}")?;
+    assert_eq!(rt; text.as_str(), "ExitCode(unix_exit_status(2))");
     Ok(())
 }

@@ -8,7 +8,7 @@ use Rattle.flash_dev.specs.Layout.{image_size}
 use Rattle.outside.specs.Faults.{HasRisen}
 use Rattle.outside.specs.Written.{AppendsPart}
 use Rattle.report_text.specs.Listing.{listing_text}
-use Rattle.script_text.specs.declared.fault.ScriptFault.{ScriptFault}
+use Rattle.script_text.specs.declared.script_fault.ScriptFault.{ScriptFault}
 use Rattle.script_text.specs.Script.{script_of}
 use Rattle.var_types.specs.declared.answered.Answered.{Answered}
 use Rattle.var_types.specs.Kept.{kept}

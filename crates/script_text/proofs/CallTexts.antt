@@ -17,7 +17,8 @@ use Rattle.script_text.specs.Lines.{is_text, words_of}
 use Rattle.script_text.specs.Numbers.{processor_of}
 use Rattle.script_text.specs.ReadBack.{IsReadable, IsReadableFind, IsReadableSet, line_of}
 use Rattle.script_text.specs.Script.{calls_from, script_of}
-use Rattle.script_text.specs.Texts.{attributes_text, bytes_text, call_text, call_words_of, name_text, spaced, verdict_words}
+use Rattle.var_types.specs.Texts.{attributes_text, bytes_text, name_text, spaced}
+use Rattle.script_text.specs.Texts.{call_text, call_words_of, verdict_words}
 use Rattle.script_text.specs.Words.{call_words, get_call, get_words, guid_read, guid_word, line_call, next_call, next_words, set_call, set_words, verb_of, verb_words, words_call}
 use Rattle.script_text.proofs.LineLemmas.{lines-ended_line, lines-one_line}
 use Rattle.script_text.proofs.NameTexts.{IsWord-name_text, name_of-name_text}

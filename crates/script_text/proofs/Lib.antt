@@ -2,7 +2,6 @@ pub mod DigitLemmas
 pub mod NameLemmas
 pub mod LineLemmas
 pub mod ScriptLemmas
-pub mod TextLemmas
 pub mod WordLemmas
 pub mod HexTexts
 pub mod NumberTexts

@@ -5,9 +5,9 @@ use Rattle.std.specs.Str.Lines.{lines}
 use Rattle.std.proofs.lemmas.Bool.{eq-eqb, ne_eqb}
 use Rattle.std.proofs.lemmas.List.{append-nil}
 use Rattle.var_types.specs.declared.call.Call.{Call}
-use Rattle.script_text.specs.declared.fault.ScriptFault.{ScriptFault}
-use Rattle.script_text.specs.declared.fault.ScriptFault.TheVariants as fault
-use Rattle.script_text.specs.declared.reason.LineReason.{LineReason}
+use Rattle.script_text.specs.declared.script_fault.ScriptFault.{ScriptFault}
+use Rattle.script_text.specs.declared.script_fault.ScriptFault.TheVariants as fault
+use Rattle.script_text.specs.declared.line_reason.LineReason.{LineReason}
 use Rattle.script_text.specs.CallsBefore.{calls_after, all_calls, ReadsLine, RefusesLine, RefusesCall}
 use Rattle.script_text.specs.Script.{before_calls, calls_from}
 use Rattle.script_text.specs.Words.{line_call}

@@ -1,6 +1,6 @@
 use Rattle.std.specs.Prelude.{◌≡◌, Result, Ok, Err}
-use Rattle.script_text.specs.declared.fault.ScriptFault.{ScriptFault}
-use Rattle.script_text.specs.declared.fault.ScriptFault.TheVariants as fault
+use Rattle.script_text.specs.declared.script_fault.ScriptFault.{ScriptFault}
+use Rattle.script_text.specs.declared.script_fault.ScriptFault.TheVariants as fault
 
 -- a refusal is the one that reading finds, but for want of memory, which comes at any text
 abbrev pub IsRefusal : {Y : Type 0} → ScriptFault → Result Y ScriptFault → Type 0

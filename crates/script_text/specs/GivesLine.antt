@@ -1,7 +1,7 @@
 use Rattle.std.specs.Prelude.{◌≡◌, Result, Ok, Err}
 use Rattle.script_text.specs.declared.line_fault.LineFault.{LineFault}
 use Rattle.script_text.specs.declared.line_fault.LineFault.TheVariants.{Reason, OutOfMemory}
-use Rattle.script_text.specs.declared.reason.LineReason.{LineReason}
+use Rattle.script_text.specs.declared.line_reason.LineReason.{LineReason}
 
 -- a refusal is the one that reading finds, but for want of memory, which comes at any line
 abbrev pub IsLineRefusal : {Y : Type 0} → LineFault → Result Y LineReason → Type 0

@@ -7,7 +7,6 @@ pub mod Words
 pub mod Script
 pub mod CallsBefore
 pub mod Texts
-pub mod Appended
 pub mod Gives
 pub mod GivesLine
 pub mod ReadBack

@@ -5,8 +5,8 @@ use Rattle.var_types.specs.declared.guid.Guid.{Guid}
 use Rattle.var_types.specs.declared.guid.NotAGuid.{NotAGuid}
 use Rattle.var_types.specs.declared.verdict.Verdict.TheVariants.{Good}
 use Rattle.var_types.specs.Guid.{guid_of}
-use Rattle.script_text.specs.declared.reason.LineReason.{LineReason}
-use Rattle.script_text.specs.declared.reason.LineReason.TheVariants as reason
+use Rattle.script_text.specs.declared.line_reason.LineReason.{LineReason}
+use Rattle.script_text.specs.declared.line_reason.LineReason.TheVariants as reason
 use Rattle.script_text.specs.declared.verb.Verb.{Verb}
 use Rattle.script_text.specs.declared.verb.Verb.TheVariants as verb
 use Rattle.script_text.specs.Lines.{words_of, is_text, is_comment}

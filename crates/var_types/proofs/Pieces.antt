@@ -4,6 +4,7 @@ use Rattle.std.proofs.lemmas.Bool.{ne_eqb}
 use Rattle.std.proofs.lemmas.List.{append-nil, take_more, take-append-drop}
 use Rattle.std.proofs.lemmas.List.Concat.{flat_map-append}
 use Rattle.hex.specs.Hex.{encode_lower, encode_with}
+use Rattle.var_types.specs.Texts.{later_words, spaced}
 
 -- the texts of the elements so far and of the next one
 pub flat_map-take_more : {A : Type 0} (f : A → List ℕ) (xs : List A) (i : ℕ) (d x : A) → i < length xs → x ≡ get_or xs i d
@@ -14,6 +15,11 @@ flat_map-take_more f xs i d x within is =
     ∙ flat_map-append f (take i xs) (x ∷ [])
     ∙ ap (λ t. flat_map f (take i xs) ++ t) (append-nil (f x))
     )
+
+-- words with a space between each two are the first, and each later one behind a space
+pub spaced-cons : (word : List ℕ) (words : List (List ℕ)) → word ++ later_words words ≡ spaced (word ∷ words)
+spaced-cons word [] = append-nil word
+spaced-cons word (next ∷ words) = ap (λ text. word ++ (32 ∷ text)) (spaced-cons next words)
 
 -- the digits of two lists of bytes
 encode_with-append : (digits xs ys : List ℕ) → encode_with digits (xs ++ ys) ≡ encode_with digits xs ++ encode_with digits ys

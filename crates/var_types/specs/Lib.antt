@@ -1,4 +1,5 @@
 pub mod Layout
+pub mod Values
 pub mod Put
 pub mod Guid
 pub mod Units

@@ -38,13 +38,12 @@ joined_by true false z a b c t u is_x is_y is_z first next = let lost : true ≡
 joined_by false true true a b c t u is_x is_y is_z first next =
     (first.0, first.1 ++ u, sym (append_assoc first.0 first.1 u) ∙ ap (λ (s : List ℕ). s ++ u) first.2, ap (λ (s : Text). s.bytes) next ∙ first.3)
 joined_by false true false a b c t u is_x is_y is_z first next = let lost : false ≡ true = sym is_z ∙ ap (λ (s : Text). s.lacks) next ∙ is_y in cc
-joined_by false false true a b c t u is_x is_y is_z first next =
-    (
-      t ++ next.0,
-      next.1,
-      append_assoc t next.0 next.1 ∙ ap (λ (s : List ℕ). t ++ s) next.2,
-      next.3 ∙ ap (λ (s : List ℕ). s ++ next.0) first ∙ append_assoc a.bytes t next.0,
-    )
+joined_by false false true a b c t u is_x is_y is_z first next = (
+  t ++ next.0,
+  next.1,
+  append_assoc t next.0 next.1 ∙ ap (λ (s : List ℕ). t ++ s) next.2,
+  next.3 ∙ ap (λ (s : List ℕ). s ++ next.0) first ∙ append_assoc a.bytes t next.0,
+)
 joined_by false false false a b c t u is_x is_y is_z first next = next ∙ ap (λ (s : List ℕ). s ++ u) first ∙ append_assoc a.bytes t u
 
 -- two texts that are put one behind the other are their text

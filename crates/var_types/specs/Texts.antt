@@ -9,6 +9,10 @@ use lib.Pointwise.{pointwise}
 abbrev pub spaced : List (List ℕ) → List ℕ
 spaced words = join_with_byte 32 words
 
+-- words with a space before each (this project's own)
+abbrev pub later_words : List (List ℕ) → List ℕ
+later_words words = flat_map (λ word. 32 ∷ word) words
+
 -- `0x` and eight lower-case digits (this project's own)
 unfoldable pub attributes_text : ℕ → List ℕ
 attributes_text n = codes "0x" ++ encode_lower (to_be_bytes w32 n)

@@ -1,6 +1,7 @@
-ghost use Rattle.std.specs.Prelude.{◌≡◌};
+ghost use Rattle.std.specs.Prelude.{◌≡◌, length};
 ghost use Rattle.uuid.specs.Parts.{swap_fields};
 ghost use Rattle.uuid.specs.Text.{parsed};
+ghost use Rattle.var_types.specs.Values.{AreBytes};
 
 use crate::Put;
 use thiserror::Error;
@@ -18,7 +19,7 @@ pub struct Guid {
 }
 
 impl Guid {
-    ghost use Rattle.var_types.specs.Guid.{guid_of, guid_text};
+    ghost use Rattle.var_types.specs.Guid.{IsGuid, guid_of, guid_text};
 
     /// The GUID of a text in one of the forms that `uuid` reads: hyphenated, simple, braced or URN, in either case.
     pub fn read(text: &str) -> Result<Self, NotAGuid>
@@ -43,12 +44,20 @@ impl Guid {
     /// Puts the 36 characters of the hyphenated form in lower case.
     #[tactic(auto, unfolding(crate::specs::Guid::guid_text))]
     pub fn write<P: Put>(&self, out: &mut P)
-        ensures { P.Puts out.old out.new (guid_text self.now) }
+        ensures text { P.Puts out.old out.new (guid_text self.now) }
+        ensures values { IsGuid self.now }
     {
         let mut buffer = Uuid::encode_buffer();
-        let text = Uuid::from_bytes_le(self.bytes)
-            .hyphenated()
-            .encode_lower(&mut buffer);
+        let text = uuid_of(&self.bytes).hyphenated().encode_lower(&mut buffer);
         out.put(text.as_bytes());
     }
+}
+
+// The UUID of bytes as they are stored.
+fn uuid_of(bytes: &[u8; 16]) -> Uuid
+    ensures uuid { result ≡ swap_fields bytes.now }
+    ensures length { length bytes.now ≡ 16 }
+    ensures values { AreBytes bytes.now }
+{
+    Uuid::from_bytes_le(*bytes)
 }

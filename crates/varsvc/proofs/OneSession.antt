@@ -3,7 +3,7 @@ use Rattle.std.proofs.lemmas.Fmt.{decimal_injective}
 use Rattle.std.proofs.lemmas.List.{append_cancel_right, length-map}
 use Rattle.std.proofs.lemmas.List.Elements.{All-head, All-tail}
 use Rattle.std.proofs.lemmas.List.Prefix.{end_rest}
-use Rattle.script_text.specs.Texts.{spaced}
+use Rattle.var_types.specs.Texts.{spaced}
 use Rattle.var_types.specs.declared.answered.Answered.{Answered}
 use Rattle.var_types.specs.declared.answered.Route.{Route}
 use Rattle.var_types.specs.declared.answered.Route.TheVariants.{Plain}

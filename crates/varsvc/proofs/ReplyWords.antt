@@ -1,5 +1,5 @@
 use Rattle.std.proofs.Common.{◌≡◌, ℕ, List, [], ◌∷◌, decimal, refl}
-use Rattle.script_text.specs.Texts.{spaced, attributes_text, bytes_text, name_text}
+use Rattle.var_types.specs.Texts.{attributes_text, bytes_text, name_text, spaced}
 use Rattle.var_types.specs.Guid.{guid_text}
 use Rattle.var_types.specs.declared.name.NameFault.{NameFault}
 use Rattle.var_types.specs.declared.name.NameFault.TheVariants as name

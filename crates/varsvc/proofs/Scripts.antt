@@ -3,8 +3,8 @@ use Rattle.std.specs.Str.Lines.{lines}
 use Rattle.std.proofs.lemmas.List.{take_all, length-take-le}
 use Rattle.std.proofs.lemmas.Bool.{lt-ltb, cases_lt}
 use Rattle.var_types.specs.declared.call.Call.{Call}
-use Rattle.script_text.specs.declared.fault.ScriptFault.{ScriptFault}
-use Rattle.script_text.specs.declared.fault.ScriptFault.TheVariants.{TooLong}
+use Rattle.script_text.specs.declared.script_fault.ScriptFault.{ScriptFault}
+use Rattle.script_text.specs.declared.script_fault.ScriptFault.TheVariants.{TooLong}
 use Rattle.script_text.specs.Script.{script_of, one_processor, calls_from}
 
 one_of : (r : Result (List Call) ScriptFault) (script : List (List Call)) → one_processor r ≡ Ok script

@@ -13,7 +13,7 @@ pieces-preserved g c =
       front ++ piece,
       next_front front c.pieces.rest.now c.args.bytes.now piece c.split_at.result.1.now c.min.result c.pieces.invariant.1 c.split_at.ensures.front c.split_at.ensures.back,
       subst (λ (t : List ℕ). g.P.Put.Puts c.args.out.now c.write_piece.new.out t) (sym (encode_lower-append front piece))
-      (g.met.P.Put.joined _ _ _ _ _ c.pieces.invariant.2 c.write_piece.ensures),
+          (g.met.P.Put.joined _ _ _ _ _ c.pieces.invariant.2 c.write_piece.ensures),
     )
 
 pub returns : goal.returns

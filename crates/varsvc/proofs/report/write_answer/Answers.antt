@@ -1,5 +1,5 @@
 use Rattle.std.proofs.Common.{◌≡◌, ℕ, List, [], ◌∷◌, ◌++◌, OnOk, ap, ◌∙◌, subst, append_assoc, decimal}
-use Rattle.script_text.specs.Texts.{spaced}
+use Rattle.var_types.specs.Texts.{spaced}
 use Rattle.varsvc.specs.Replies.{reply_text}
 use Rattle.varsvc.specs.Report.{answer_line, route_word}
 use Rattle.report_text.specs.Word.{word_text}

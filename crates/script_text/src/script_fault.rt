@@ -1,5 +1,5 @@
 ghost use Rattle.std.specs.Prelude.{◌≡◌};
-ghost use Rattle.script_text.specs.declared.fault.ScriptFault.TheVariants.{OutOfMemory};
+ghost use Rattle.script_text.specs.declared.script_fault.ScriptFault.TheVariants.{OutOfMemory};
 
 use crate::LineReason;
 use std::alloc::{AllocError, AllocFailed};

@@ -67,9 +67,9 @@ chosen_from-is key held (live ∷ ls) h =
     by false e false rest = rest held h ∙ same (find (is_added key) ls) (find (is_in_transition key) (reverse ls))
 
 -- one pass from nothing finds the record that counts
-pub chosen_from-none : (key : Key) (ls : List Live) → chosen_from key None ls ≡ chosen key ls
+pub chosen_in_one_pass : (key : Key) (ls : List Live) → chosen_from key None ls ≡ chosen key ls
 unfolding chosen
-chosen_from-none key ls =
+chosen_in_one_pass key ls =
     chosen_from-is key None ls refl ∙ or_none (option_or (find (is_added key) ls) (find (is_in_transition key) (reverse ls)))
   where
     or_none : (o : Option Live) → option_or o None ≡ o
@@ -88,7 +88,7 @@ chosen_from_others key held (live ∷ ls) h = by (is_of key live) h (chosen_from
 
 -- no record counts for a key that none has
 pub chosen-none : (key : Key) (ls : List Live) → list_any (is_of key) ls ≡ false → chosen key ls ≡ None
-chosen-none key ls h = sym (chosen_from-none key ls) ∙ chosen_from_others key None ls h
+chosen-none key ls h = sym (chosen_in_one_pass key ls) ∙ chosen_from_others key None ls h
 
 -- a pass that holds a record finds one
 held_stays : (key : Key) (held : Live) (ls : List Live) → is_some (chosen_from key (Some held) ls) ≡ true
@@ -112,7 +112,7 @@ one_found key held (live ∷ ls) h = by (is_of key live) h (one_found key held l
 
 -- the record that counts for a key is of that key
 pub chosen_key : (key : Key) (ls : List Live) (live : Live) → chosen key ls ≡ Some live → live.key ≡ key
-chosen_key key ls live h = along ls None (λ l g. cc) (chosen_from-none key ls ∙ h)
+chosen_key key ls live h = along ls None (λ l g. cc) (chosen_in_one_pass key ls ∙ h)
   where
     along : (ls : List Live) (held : Option Live) → ((l : Live) → held ≡ Some l → l.key ≡ key) → chosen_from key held ls ≡ Some live → live.key ≡ key
     along [] held f g = f live g

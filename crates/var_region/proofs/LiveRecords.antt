@@ -1,13 +1,15 @@
 -- The live records of bytes from an offset on, record by record, and what is found among them.
-use Rattle.std.proofs.Common.{◌≡◌, ℕ, Bool, List, [], Option, Some, None, refl, sym, ap, ◌∙◌, option_map}
+use Rattle.std.proofs.Common.{◌≡◌, ℕ, Bool, List, [], Option, Some, None, IfSome, ◌≤◌, length, refl, sym, ap, ◌∙◌, option_map, arith}
 use Rattle.std.specs.BTreeMap.{is_at}
 use Rattle.std.specs.Map.{lookup}
+use Rattle.var_types.proofs.Bounds.{small_chosen}
 use Rattle.var_types.proofs.Maps.{map_exact}
 use Rattle.var_types.proofs.Records.{records_first, records_none}
 use Rattle.var_types.specs.Chosen.{chosen, variable_of}
 use Rattle.var_types.specs.declared.key.Key.{Key}
 use Rattle.var_types.specs.declared.record.Record.{Record}
 use Rattle.var_types.specs.Key.{key_cmp}
+use Rattle.var_types.specs.Layout.{longest_region}
 use Rattle.var_types.specs.Live.{live_of, lives, with_live}
 use Rattle.var_types.specs.Record.{Authenticated, next_offset, record_at}
 use Rattle.var_types.specs.Region.{Region, region_lives, region_map}
@@ -36,3 +38,9 @@ found_in_map region key found e = by found ∙ ap variable_of e ∙ sym ((map_ex
     by : (o : Option Found) → option_map seen_variable o ≡ variable_of (option_map seen o)
     by None = refl
     by (Some f) = refl
+
+-- the record that was found for a key has no more data than a region may have bytes
+pub small_found : (region : Region) (key : Key) (found : Option Found) → length region.bytes ≤ longest_region
+    → option_map seen found ≡ chosen key (region_lives region) → IfSome found (λ f. length f.payload.now ≤ longest_region)
+small_found region key None room e = tt
+small_found region key (Some f) room e = let small = small_chosen region key (seen f) (sym e) in omega arith

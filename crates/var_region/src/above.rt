@@ -1,8 +1,9 @@
 //! The least key above a bound that callers see: a pass for the least key, one for its record, and on only from one that is not seen.
-ghost use Rattle.std.specs.Prelude.{◌≡◌, Some, None, IfSome};
+ghost use Rattle.std.specs.Prelude.{◌≡◌, ◌≤◌, length, Some, None, IfSome};
 ghost use Rattle.std.specs.Option.{option_map};
 ghost use Rattle.var_types.specs.Chosen.{chosen};
 ghost use Rattle.var_types.specs.Key.{key_cmp};
+ghost use Rattle.var_types.specs.Layout.{longest_region};
 ghost use Rattle.var_types.specs.Least.{is_shown, least_from, lower, lower_above, shown};
 ghost use Rattle.var_types.specs.Next.{is_above};
 ghost use Rattle.var_types.specs.Region.{entry_above, region_lives};
@@ -70,7 +71,8 @@ fn is_shown(runtime: bool, found: &Found) -> bool
 
 /// The record that counts for a key, where callers see its variable.
 fn shown<'a>(region: &Region<'a>, wanted: &Wanted, runtime: bool) -> Option<Found<'a>>
-    ensures { option_map seen result ≡ shown runtime (chosen (wanted_key wanted.now) (region_lives region.now)) }
+    ensures counts { option_map seen result ≡ shown runtime (chosen (wanted_key wanted.now) (region_lives region.now)) }
+    ensures payload { IfSome result (λ f. length f.payload.now ≤ longest_region) }
 {
     let found = search(region, wanted)?;
     if !is_shown(runtime, &found) {
@@ -88,6 +90,7 @@ pub(crate) fn above<'a>(
 ) -> Option<Found<'a>>
     ensures entry { option_map seen_entry result ≡ entry_above region.now runtime (option_map wanted_key bound.now) }
     ensures counts { IfSome result (λ f. chosen (seen_key f) (region_lives region.now) ≡ Some (seen f)) }
+    ensures payload { IfSome result (λ f. length f.payload.now ≤ longest_region) }
 {
     let mut low = least(region, bound);
     'keys: while let Some(next) = low {

@@ -1,7 +1,8 @@
 //! The record that counts for a key, in one pass over a region.
-ghost use Rattle.std.specs.Prelude.{◌≡◌};
+ghost use Rattle.std.specs.Prelude.{◌≡◌, ◌≤◌, length, IfSome};
 ghost use Rattle.std.specs.Option.{option_map};
 ghost use Rattle.var_types.specs.Chosen.{chosen, chosen_after, counting, is_settled};
+ghost use Rattle.var_types.specs.Layout.{longest_region};
 ghost use Rattle.var_types.specs.Region.{region_lives};
 ghost use Rattle.var_region.specs.Found.{seen};
 ghost use Rattle.var_region.specs.Wanted.{wanted_key};
@@ -44,9 +45,10 @@ fn chosen_after<'a>(wanted: &Wanted, held: Option<Found<'a>>, later: Found<'a>) 
 }
 
 /// The record that counts for a key; the search ends at the first ADDED one.
-#[tactic(auto, using(var_types::proofs::Chosen::chosen_in_one_pass, var_types::proofs::Chosen::settled_stays))]
+#[tactic(auto, using(crate::proofs::LiveRecords::small_found, var_types::proofs::Chosen::chosen_in_one_pass, var_types::proofs::Chosen::settled_stays))]
 pub(crate) fn search<'a>(region: &Region<'a>, wanted: &Wanted) -> Option<Found<'a>>
-    ensures { option_map seen result ≡ chosen (wanted_key wanted.now) (region_lives region.now) }
+    ensures counts { option_map seen result ≡ chosen (wanted_key wanted.now) (region_lives region.now) }
+    ensures payload { IfSome result (λ f. length f.payload.now ≤ longest_region) }
 {
     let mut held = None;
     for found in region.lives() {

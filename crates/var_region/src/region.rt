@@ -69,7 +69,8 @@ impl<'a> Region<'a> {
     /// A walk over the records that are variables', ADDED or in transition to deleted.
     #[tactic(auto, unfolding(var_types::specs::Region::region_records, var_types::specs::Region::region_lives, crate::specs::Lives::lives_at))]
     pub fn lives(&self) -> Lives<'a>
-        ensures { result ≡ region_lives self.now }
+        ensures is { result ≡ region_lives self.now }
+        ensures few { length self.now.bytes ≤ longest_region }
     {
         Lives {
             bytes: self.bytes,
@@ -93,6 +94,7 @@ impl<'a> Region<'a> {
     pub fn find(&self, guid: &Guid, name: &[u16]) -> Option<Found<'a>>
         ensures counts { option_map seen result ≡ chosen (key_of guid.now name.now) (region_lives self.now) }
         ensures variable { option_map seen_variable result ≡ lookup (is_at (key_cmp (key_of guid.now name.now))) (region_map self.now) }
+        ensures payload { IfSome result (λ f. length f.payload.now ≤ longest_region) }
     {
         search(self, &Wanted::new(guid, name))
     }
@@ -101,6 +103,7 @@ impl<'a> Region<'a> {
     pub fn above(&self, guid: &Guid, name: &[u16], runtime: bool) -> Option<Found<'a>>
         ensures entry { option_map seen_entry result ≡ entry_above self.now runtime (bound_of guid.now name.now) }
         ensures counts { IfSome result (λ f. chosen (seen_key f) (region_lives self.now) ≡ Some (seen f)) }
+        ensures payload { IfSome result (λ f. length f.payload.now ≤ longest_region) }
     {
         above(self, &bound_of(guid, name), runtime)
     }

@@ -25,11 +25,11 @@ keys-preserved c =
     let wanted = wanted_key c.of-wanted.result in
     ap (shown_from ls c.args.runtime) c.least-low-in-Some.ensures
     ∙ sym (shown_above-least ls c.args.runtime (Some wanted))
-    ∙ ap (λ found. option_or (option_map live_entry found) (shown_above ls c.args.runtime (Some wanted))) c.in_default-shown.ensures
+    ∙ ap (λ found. option_or (option_map live_entry found) (shown_above ls c.args.runtime (Some wanted))) c.in_default-shown.ensures.counts
     ∙ ap (λ key. shown_from ls c.args.runtime (Some key)) c.of-wanted.ensures
     ∙ ap (λ low. shown_from ls c.args.runtime (option_map seen_key low)) (sym c.in-Some.is)
     ∙ c.keys.invariant
 
 pub returns-in-Some-shown-clause-counts : goal.returns-in-Some-shown-clause-counts
 returns-in-Some-shown-clause-counts c =
-    shown_key (region_lives c.args.region.now) c.args.runtime (wanted_key c.of-wanted.result) (seen c.in-Some-shown.found) c.in-Some-shown.ensures
+    shown_key (region_lives c.args.region.now) c.args.runtime (wanted_key c.of-wanted.result) (seen c.in-Some-shown.found) c.in-Some-shown.ensures.counts

@@ -1,12 +1,12 @@
 -- The record that counts for a key, found in one pass that holds the one that counts so far.
-use Rattle.std.proofs.Common.{◌≡◌, Bool, true, false, cond, not, ◌&&◌, ◌||◌, List, [], ◌∷◌, reverse, find, Option, Some, None, is_some, refl, sym, ap, ◌∙◌}
+use Rattle.std.proofs.Common.{◌≡◌, Bool, true, false, cond, not, ◌&&◌, ◌||◌, List, [], ◌∷◌, reverse, find, Option, Some, None, is_some, refl, sym, ap, subst, ◌∙◌}
 use mathlib.Core.List.{reverse-cons}
 use Rattle.std.proofs.lemmas.List.Folds.{find-append}
 use Rattle.std.specs.Cmp.{Equal-is}
-use Rattle.std.specs.List.{list_any}
+use Rattle.std.specs.List.{AllByRecursion, list_any}
 use Rattle.std.specs.Option.{option_or}
 use Rattle.var_types.proofs.Keys.{same_key}
-use Rattle.var_types.specs.Chosen.{chosen, chosen_after, chosen_from, counting, is_added, is_in_transition, is_of, is_settled}
+use Rattle.var_types.specs.Chosen.{chosen, chosen_from, counting, is_added, is_in_transition, is_of, is_settled}
 use Rattle.var_types.specs.declared.key.Key.{Key}
 use Rattle.var_types.specs.Key.{key_cmp}
 use Rattle.var_types.specs.Live.{Live}
@@ -67,9 +67,9 @@ chosen_from-is key held (live ∷ ls) h =
     by false e false rest = rest held h ∙ same (find (is_added key) ls) (find (is_in_transition key) (reverse ls))
 
 -- one pass from nothing finds the record that counts
-pub chosen_from-none : (key : Key) (ls : List Live) → chosen_from key None ls ≡ chosen key ls
+pub chosen_in_one_pass : (key : Key) (ls : List Live) → chosen_from key None ls ≡ chosen key ls
 unfolding chosen
-chosen_from-none key ls =
+chosen_in_one_pass key ls =
     chosen_from-is key None ls refl ∙ or_none (option_or (find (is_added key) ls) (find (is_in_transition key) (reverse ls)))
   where
     or_none : (o : Option Live) → option_or o None ≡ o
@@ -88,7 +88,7 @@ chosen_from_others key held (live ∷ ls) h = by (is_of key live) h (chosen_from
 
 -- no record counts for a key that none has
 pub chosen-none : (key : Key) (ls : List Live) → list_any (is_of key) ls ≡ false → chosen key ls ≡ None
-chosen-none key ls h = sym (chosen_from-none key ls) ∙ chosen_from_others key None ls h
+chosen-none key ls h = sym (chosen_in_one_pass key ls) ∙ chosen_from_others key None ls h
 
 -- a pass that holds a record finds one
 held_stays : (key : Key) (held : Live) (ls : List Live) → is_some (chosen_from key (Some held) ls) ≡ true
@@ -110,26 +110,44 @@ one_found key held (live ∷ ls) h = by (is_of key live) h (one_found key held l
     by true h rest = held_stays key (counting held live) ls
     by false h rest = rest h
 
+-- what holds of a record that is held and of each later one holds of the one that counts so far
+counting_either : (P : Live → Type 0) (held : Option Live) (later : Live) → ((l : Live) → held ≡ Some l → P l) → P later → P (counting held later)
+counting_either P None later f h = h
+counting_either P (Some l) later f h = by (is_added_state l.state)
+  where
+    by : (b : Bool) → P (cond b l later)
+    by true = f l refl
+    by false = h
+
+-- what holds of what is held, and of each record of the key, holds of what a pass finds
+chosen_from-all : (P : Live → Type 0) (key : Key) (held : Option Live) (ls : List Live) → ((l : Live) → held ≡ Some l → P l)
+    → AllByRecursion (λ live. is_of key live ≡ true → P live) ls → (live : Live) → chosen_from key held ls ≡ Some live → P live
+chosen_from-all P key held [] f all live g = f live g
+chosen_from-all P key held (one ∷ ls) f all live g = by (is_of key one) refl g (λ next h. chosen_from-all P key next ls h all.1 live)
+  where
+    by : (mine : Bool) → is_of key one ≡ mine → chosen_from key (cond mine (Some (counting held one)) held) ls ≡ Some live
+        → ((next : Option Live) → ((l : Live) → next ≡ Some l → P l) → chosen_from key next ls ≡ Some live → P live) → P live
+    by true t g rest =
+        rest (Some (counting held one)) (λ l e. let same : counting held one ≡ l = cc in subst P same (counting_either P held one f (all.0 t))) g
+    by false t g rest = rest held f g
+
+-- what holds of each live record of a key holds of the one that counts
+chosen-mine : (P : Live → Type 0) (key : Key) (ls : List Live) → AllByRecursion (λ live. is_of key live ≡ true → P live) ls → (live : Live)
+    → chosen key ls ≡ Some live → P live
+chosen-mine P key ls all live h = chosen_from-all P key None ls (λ l g. cc) all live (chosen_in_one_pass key ls ∙ h)
+
+-- what holds of each live record holds of the one that counts for a key
+pub chosen-all : (P : Live → Type 0) (key : Key) (ls : List Live) → AllByRecursion P ls → (live : Live) → chosen key ls ≡ Some live → P live
+chosen-all P key ls all live h = chosen-mine P key ls (mine ls all) live h
+  where
+    mine : (ls : List Live) → AllByRecursion P ls → AllByRecursion (λ live. is_of key live ≡ true → P live) ls
+    mine [] all = tt
+    mine (l ∷ ls) all = (λ t. all.0, mine ls all.1)
+
 -- the record that counts for a key is of that key
 pub chosen_key : (key : Key) (ls : List Live) (live : Live) → chosen key ls ≡ Some live → live.key ≡ key
-chosen_key key ls live h = along ls None (λ l g. cc) (chosen_from-none key ls ∙ h)
+chosen_key key ls live h = chosen-mine (λ live. live.key ≡ key) key ls (own ls) live h
   where
-    along : (ls : List Live) (held : Option Live) → ((l : Live) → held ≡ Some l → l.key ≡ key) → chosen_from key held ls ≡ Some live → live.key ≡ key
-    along [] held f g = f live g
-    along (one ∷ ls) held f g = by (is_of key one) refl g (along ls)
-      where
-        counted : (o : Option Live) → ((l : Live) → o ≡ Some l → l.key ≡ key) → one.key ≡ key → (counting o one).key ≡ key
-        counted None f own = own
-        counted (Some l) f own = either (is_added_state l.state)
-          where
-            either : (b : Bool) → (cond b l one).key ≡ key
-            either true = f l refl
-            either false = own
-
-        by : (mine : Bool) → is_of key one ≡ mine → chosen_from key (cond mine (Some (counting held one)) held) ls ≡ Some live
-            → ((next : Option Live) → ((l : Live) → next ≡ Some l → l.key ≡ key) → chosen_from key next ls ≡ Some live → live.key ≡ key) → live.key ≡ key
-        by true t g rest =
-            let own : one.key ≡ key = sym (same_key key one.key ((Equal-is (key_cmp key one.key)).0 t)) in
-            rest (Some (counting held one))
-            (λ l e. let same : counting held one ≡ l = cc in ap (λ (l : Live). l.key) (sym same) ∙ counted held f own) g
-        by false t g rest = rest held f g
+    own : (ls : List Live) → AllByRecursion (λ live. is_of key live ≡ true → live.key ≡ key) ls
+    own [] = tt
+    own (one ∷ ls) = (λ t. sym (same_key key one.key ((Equal-is (key_cmp key one.key)).0 t)), own ls)

@@ -5,7 +5,7 @@ use Rattle.std.proofs.lemmas.Bool.{or_right}
 use Rattle.std.proofs.lemmas.Cmp.{tied_itself}
 use Rattle.std.specs.List.{list_any}
 use Rattle.std.specs.Option.{option_or}
-use Rattle.var_types.proofs.Chosen.{chosen_from-none, chosen_key, one_found}
+use Rattle.var_types.proofs.Chosen.{chosen_in_one_pass, chosen_key, one_found}
 use Rattle.var_types.proofs.FirstKeys.{HoldsUpward, first_key, first_key-insert_entry, lookup_found}
 use Rattle.var_types.proofs.FirstShown.{first_shown, first_shown-is, from_entry}
 use Rattle.var_types.proofs.Keys.{key_cmp_total, same_key}
@@ -79,7 +79,7 @@ least_from-entries bound all (live ∷ ls) a =
     by : (found : Option Live) → chosen live.key all ≡ found
         → lower key_cmp (cond (is_above bound live.key) (Some live.key) None) (first_key (is_above bound) (entries_in all ls))
         ≡ first_key (is_above bound) (with_variable live.key found (entries_in all ls))
-    by None e = absurd (true≢false (sym (one_found live.key None all a.0) ∙ ap is_some (chosen_from-none live.key all ∙ e)))
+    by None e = absurd (true≢false (sym (one_found live.key None all a.0) ∙ ap is_some (chosen_in_one_pass live.key all ∙ e)))
     by (Some l) e =
         grouped (is_above bound live.key) (first_key (is_above bound) (entries_in all ls))
         ∙ sym (first_key-insert_entry key_cmp_total same_key (is_above bound) (above_upward bound) live.key l.variable (entries_in all ls))
@@ -129,6 +129,18 @@ shown_above-least ls runtime bound =
     by (Some e) h =
         entry_shown ls runtime e (shown_above ls runtime (Some e.0)) (chosen e.0 ls) refl
         (sym ((map_exact ls).holds e.0) ∙ lookup_found key_cmp_total same_key (is_above bound) (map_of ls) e h)
+
+-- a record that is shown for a key counts for its own
+pub shown_key : (ls : List Live) (runtime : Bool) (key : Key) (live : Live) → Some live ≡ shown runtime (chosen key ls) → chosen live.key ls ≡ Some live
+shown_key ls runtime key live h = by (chosen key ls) refl h
+  where
+    by : (found : Option Live) → chosen key ls ≡ found → Some live ≡ shown runtime found → chosen live.key ls ≡ Some live
+    by None is h = cc
+    by (Some l) is h = if_shown (is_shown runtime l.variable) h
+      where
+        if_shown : (b : Bool) → Some live ≡ cond b (Some l) None → chosen live.key ls ≡ Some live
+        if_shown true h = ap (λ k. chosen k ls) (ap (λ (o : Live). o.key) (let same : live ≡ l = cc in same) ∙ chosen_key key ls l is) ∙ is ∙ sym h
+        if_shown false h = cc
 
 -- how many keys of the map stand above a bound
 abbrev pub keys_above : List Live → Option Key → ℕ

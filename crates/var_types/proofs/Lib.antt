@@ -12,6 +12,7 @@ pub mod Guids
 pub mod Records
 pub mod Entries
 pub mod Chosen
+pub mod Bounds
 pub mod Maps
 pub mod Lowest
 pub mod FirstKeys

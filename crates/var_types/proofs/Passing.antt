@@ -1,5 +1,5 @@
 -- How many entries pass a test of their keys: fewer are above one that passes.
-use Rattle.std.proofs.Common.{◌≡◌, suc, Bool, true, false, cond, ℕ, ◌<◌, ◌≤◌, List, [], ◌∷◌, find, Option, Some, is_lt, Ordering, Less, Equal, Greater, refl, sym, ap, subst, ◌∙◌, true≢false, arith}
+use Rattle.std.proofs.Common.{◌≡◌, suc, Bool, true, false, cond, ℕ, ◌<◌, ◌≤◌, List, [], ◌∷◌, find, Some, is_lt, Ordering, Less, Equal, Greater, refl, sym, ap, subst, ◌∙◌, true≢false, arith}
 use Rattle.std.proofs.lemmas.Cmp.{tied_itself}
 use Rattle.std.specs.Cmp.{IsTotalOrder}
 use Rattle.var_types.proofs.FirstKeys.{HoldsUpward, found_not_below, found_passes}

@@ -2,7 +2,7 @@ use Rattle.std.proofs.Common.{◌+◌, ◌*◌, ◌-◌, ◌≢◌, length, get_
 use Rattle.std.proofs.lemmas.Bool.{ne_eqb}
 use Rattle.var_types.specs.Live.{units_in}
 use Rattle.var_region.proofs.LentNames.{before_nul_is}
-use Rattle.var_region.proofs.names.before_nul.Goals as goal
+use Rattle.var_region.proofs.name_bytes.before_nul.Goals as goal
 
 pub returns-then-unit_of-ne0 : goal.returns-then-unit_of-ne0
 returns-then-unit_of-ne0 c =

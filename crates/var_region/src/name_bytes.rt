@@ -1,13 +1,10 @@
 //! Names as a record's bytes: read unit by unit, never copied.
 ghost use Rattle.std.specs.Prelude.{◌≡◌, ◌+◌, ◌*◌, ◌%◌, Some, length};
-ghost use Rattle.std.specs.Cmp.Lexicographic.{slice_cmp};
 ghost use Rattle.std.specs.List.{list_any};
 ghost use Rattle.std.specs.Option.{option_map};
-ghost use Rattle.std.specs.Ordering.{nat_cmp};
 ghost use Rattle.var_types.specs.Live.{before_nul, name_in, units_in, well_formed};
 ghost use Rattle.var_region.specs.Names.{first_units, is_nul, lent_units};
 
-use std::cmp::Ordering;
 use var_types::LONGEST_NAME;
 
 fn unit_of(low: u8, high: u8) -> u16
@@ -17,7 +14,7 @@ fn unit_of(low: u8, high: u8) -> u16
 }
 
 /// The first unit, and the bytes behind it; a last odd byte is none.
-fn next_unit(bytes: &[u8]) -> Option<(u16, &[u8])>
+pub(crate) fn next_unit(bytes: &[u8]) -> Option<(u16, &[u8])>
     ensures { first_units result ≡ units_in bytes.now }
 {
     match bytes {
@@ -76,51 +73,4 @@ pub(crate) fn name_of(bytes: &[u8]) -> Option<&[u8]>
     }
     let name = before_nul(bytes)?;
     well_formed(name)
-}
-
-/// How some units compare to a name that is lent as bytes.
-pub(crate) fn order_units(units: &[u16], name: &[u8]) -> Ordering
-    ensures { result ≡ slice_cmp nat_cmp units.now (units_in name.now) }
-{
-    let mut own = units;
-    let mut left = name;
-    'units: while let Some((unit, rest)) = next_unit(left) {
-        let Some((first, others)) = own.split_first() else {
-            return Ordering::Less;
-        };
-        let order = first.cmp(&unit);
-        if order.is_ne() {
-            return order;
-        }
-        own = others;
-        left = rest;
-    }
-    match own.split_first() {
-        Some(_) => Ordering::Greater,
-        None => Ordering::Equal,
-    }
-}
-
-/// How a name compares to another, both lent as bytes.
-pub(crate) fn order_bytes(name: &[u8], other: &[u8]) -> Ordering
-    ensures { result ≡ slice_cmp nat_cmp (units_in name.now) (units_in other.now) }
-{
-    let mut own = name;
-    let mut left = other;
-    'units: while let Some((unit, rest)) = next_unit(left) {
-        let Some((first, others)) = next_unit(own) else {
-            return Ordering::Less;
-        };
-        let order = first.cmp(&unit);
-        if order.is_ne() {
-            return order;
-        }
-        own = others;
-        left = rest;
-    }
-    if next_unit(own).is_none() {
-        Ordering::Equal
-    } else {
-        Ordering::Greater
-    }
 }

@@ -1,6 +1,6 @@
 use Rattle.std.proofs.Common.{◌≡◌, ◌+◌, ◌-◌, ◌≤◌, length}
 use Rattle.var_types.specs.Record.{Authenticated, records, tail_from}
-use Rattle.var_region.proofs.tail.tail_place.Given as goal
+use Rattle.var_region.proofs.tail.tail_offset.Given as goal
 
 abbrev pub invariant-records : goal.invariant-records
 invariant-records l = record {

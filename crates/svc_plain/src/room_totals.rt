@@ -4,16 +4,16 @@ use var_types::Store;
 
 /// The room that the variables take in each store, in bytes.
 #[derive(Clone, Copy)]
-pub(crate) struct Used {
+pub(crate) struct RoomTotals {
     pub(crate) non_volatile: u32,
     pub(crate) volatile: u32,
 }
 
-impl Used {
-    ghost use Rattle.svc_plain.specs.Used.{used_of, used_with};
+impl RoomTotals {
+    ghost use Rattle.svc_plain.specs.RoomTotals.{total_of, totals_with};
 
     pub(crate) fn of(self, store: Store) -> u32
-        ensures { result ≡ used_of self store }
+        ensures { result ≡ total_of self store }
     {
         match store {
             Store::NonVolatile => self.non_volatile,
@@ -21,15 +21,15 @@ impl Used {
         }
     }
 
-    pub(crate) fn with(self, store: Store, value: u32) -> Used
-        ensures { result ≡ used_with self store value }
+    pub(crate) fn with(self, store: Store, value: u32) -> RoomTotals
+        ensures { result ≡ totals_with self store value }
     {
         match store {
-            Store::NonVolatile => Used {
+            Store::NonVolatile => RoomTotals {
                 non_volatile: value,
                 volatile: self.volatile,
             },
-            Store::Volatile => Used {
+            Store::Volatile => RoomTotals {
                 non_volatile: self.non_volatile,
                 volatile: value,
             },

@@ -9,3 +9,4 @@ pub mod Blanks
 pub mod Fresh
 pub mod Moments
 pub mod Formats
+pub mod Recorded

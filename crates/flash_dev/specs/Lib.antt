@@ -2,6 +2,7 @@ pub mod Rules
 pub mod Moments
 pub mod MemFlash
 pub mod Told
+pub mod RecordingFlash
 pub mod FileFlash
 pub mod Guids
 pub mod Geometry

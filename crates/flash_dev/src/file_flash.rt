@@ -1,11 +1,12 @@
-ghost use Rattle.std.specs.Prelude.{◌≡◌, ◌↔◌, ◌+◌, ◌*◌, ◌≤◌, None, false, length, IsErr, IsOk, OnOk, OnErr};
+ghost use Rattle.std.specs.Prelude.{◌≡◌, ◌↔◌, ◌+◌, ◌*◌, ◌≤◌, None, false, true, length, IsErr, IsOk, OnOk, OnErr};
+ghost use Rattle.std.specs.Fs.{IsDir, file_type, metadata_len};
 ghost use Rattle.outside.specs.Faults.{HasCause, one_more};
 ghost use Rattle.var_types.specs.Layout.{block_size, image_size};
 
 use crate::held_bytes::clear_bits;
 use crate::layout::{BLOCK_BYTES, IMAGE_BYTES};
 use crate::{Device, Flash};
-use std::fs::{OpenFile, OpenOptions};
+use std::fs::{Metadata, OpenFile, OpenOptions};
 use std::io;
 use std::io::{Read, Seek, SeekFrom, Write};
 use std::marker::Model;
@@ -43,18 +44,29 @@ impl<T: Read + Write + Seek + OpenFile + Drop> FileFlash<T> {
         }
     }
 
-    // A folder is no image, though it can be opened.
-    fn over(file: T) -> Self
+    // A flash over an open file.
+    pub(crate) fn over(file: T) -> Self
         ensures faults { result.faults ≡ 0 }
         ensures closed { result.opened ≡ false → result.size ≡ image_size }
     {
         match file.metadata() {
-            Ok(metadata) if !metadata.is_dir() => FileFlash {
-                file: Some(file),
-                size: metadata.len(),
-                faults: 0,
-            },
-            _ => Self::closed(),
+            Ok(metadata) => Self::of_metadata(file, &metadata),
+            Err(_) => Self::closed(),
+        }
+    }
+
+    // A folder is no image, though it can be opened.
+    fn of_metadata(file: T, metadata: &Metadata) -> Self
+        ensures file { ¬ IsDir (file_type metadata.now) → result ≡ record { opened = true; size = metadata_len metadata.now; faults = 0 } }
+        ensures folder { IsDir (file_type metadata.now) → result ≡ record { opened = false; size = image_size; faults = 0 } }
+    {
+        if metadata.is_dir() {
+            return Self::closed();
+        }
+        FileFlash {
+            file: Some(file),
+            size: metadata.len(),
+            faults: 0,
         }
     }
 

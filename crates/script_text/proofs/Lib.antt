@@ -1,7 +1,7 @@
 pub mod DigitLemmas
 pub mod NameLemmas
 pub mod LineLemmas
-pub mod ScriptLemmas
+pub mod ScriptProcessors
 pub mod TextLemmas
 pub mod WordLemmas
 pub mod HexTexts

@@ -5,7 +5,6 @@ pub mod FirstUnit
 pub mod Lines
 pub mod Words
 pub mod Script
-pub mod CallsBefore
 pub mod Texts
 pub mod Gives
 pub mod GivesLine

@@ -7,11 +7,11 @@ use Rattle.var_types.specs.declared.verdict.Verdict.TheVariants.{Good}
 use Rattle.var_types.specs.Guid.{IsGuid}
 use Rattle.var_types.specs.Layout.{most_units}
 use Rattle.var_types.specs.Values.{AreBytes, AreUnits}
-use Rattle.script_text.specs.Script.{script_of}
+use Rattle.script_text.specs.Script.{most_script_bytes, script_of}
 use Rattle.script_text.specs.Texts.{call_text}
 use Rattle.script_text.specs.Words.{is_set_so_far}
 
--- the units of a call's name: at most 1,024, each of 16 bits
+-- the units of a call's name: no more than it may have, each of 16 bits
 abbrev pub IsCallName : List ℕ → Type 0
 IsCallName units = (length units ≤ most_units) × AreUnits units
 
@@ -43,10 +43,10 @@ line_of call = codes "0 " ++ call_text call
 -- the line of a call reads back as the call (this project's own)
 abbrev pub CallsReadBack : Type 0
 CallsReadBack =
-    (call : Call) → IsReadable call → length (line_of call) ≤ 1048576 → script_of (line_of call) ≡ Ok ((call ∷ []) ∷ [])
+    (call : Call) → IsReadable call → length (line_of call) ≤ most_script_bytes → script_of (line_of call) ≡ Ok ((call ∷ []) ∷ [])
 
 -- so does the line with its line end (this project's own)
 abbrev pub EndedCallsReadBack : Type 0
 EndedCallsReadBack =
-    (call : Call) → IsReadable call → length (line_of call ++ 10 ∷ []) ≤ 1048576
+    (call : Call) → IsReadable call → length (line_of call ++ 10 ∷ []) ≤ most_script_bytes
     → script_of (line_of call ++ 10 ∷ []) ≡ Ok ((call ∷ []) ∷ [])

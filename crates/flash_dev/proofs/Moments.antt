@@ -31,7 +31,7 @@ module _ {F : Type 0} {moment : F → ℕ} {left_since : F → ℕ → List ℕ 
     each = λ t left early since.
         ⊎_elim
         (λ past.
-            ⊎_elim inl (λ may. inr (may_weaken First Both (holds old) left may (λ image told. weaker image left told))) (run.each t left early past))
+        ⊎_elim inl (λ may. inr (may_weaken First Both (holds old) left may (λ image told. weaker image left told))) (run.each t left early past))
         (λ may. inr (may_then End Second Both (holds old) (holds mid) left end may (λ image cells told now. chained image cells left told now)))
         (next.each t left (omega (arith, early, run.later)) since);
     now = leaves_then End Second Both (holds old) (holds mid) (holds new) end next.now chained;

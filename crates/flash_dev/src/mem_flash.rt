@@ -6,8 +6,8 @@ ghost use Rattle.flash_dev.specs.Rules.{IsEraseLeft, IsKept, IsProgramLeft, Leav
 ghost use Rattle.flash_dev.specs.Told.{bytes_told};
 ghost use Rattle.var_types.specs.Layout.{block_size};
 
-use crate::fated_bytes::{erase_by, program_by};
 use crate::fate::{Fate, fate_of};
+use crate::fated_bytes::{erase_by, program_by};
 use crate::fault_plan::FaultPlan;
 use crate::{Device, Flash};
 use std::marker::Model;

@@ -1,7 +1,7 @@
 -- Laws of what a power loss at any moment of some calls leaves.
-use Rattle.std.proofs.Common.{◌≡◌, ◌⊎◌, inl, inr, ⊎_elim, ℕ, ◌≤◌, List, Option, Some, None, IfSome, arith, ◌∙◌, sym, subst}
+use Rattle.std.proofs.Common.{◌≡◌, inl, inr, ⊎_elim, ℕ, List, Option, Some, IfSome, arith, sym, subst}
 use Rattle.flash_dev.specs.Moments.{Stays}
-use Rattle.flash_dev.specs.Rules.{Leaves, MayLeave}
+use Rattle.flash_dev.specs.Rules.{Leaves}
 use Rattle.flash_dev.proofs.Calls.{leaves_same, leaves_then, leaves_weaken, may_then, may_weaken}
 
 module _ {F : Type 0} {moment : F → ℕ} {left_since : F → ℕ → List ℕ → Type 0} {holds : F → Option (List ℕ)} where

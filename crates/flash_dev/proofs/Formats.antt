@@ -1,32 +1,22 @@
 -- What a formatting leaves, block by block.
-use Rattle.std.proofs.Common.{◌≡◌, ◌⊎◌, inl, inr, ℕ, ◌+◌, ◌*◌, ◌<◌, ◌≤◌, List, ◌++◌, length, take, drop, replicate, refl, sym, ap, ◌∙◌, arith, lit<, subst, Option, IfSome, length-append, length-drop}
-use Rattle.std.proofs.lemmas.List.{drop-drop, drop_at, length-replicate, take_at}
+use Rattle.std.proofs.Common.{◌≡◌, inl, inr, ℕ, ◌+◌, ◌*◌, ◌<◌, ◌≤◌, List, length, take, drop, replicate, refl, ap, ◌∙◌, arith, lit<, subst, Option, IfSome, length-append, length-drop}
+use Rattle.std.proofs.lemmas.List.{length-replicate}
 use Rattle.flash_dev.specs.Blank.{blank_headers}
-use Rattle.flash_dev.specs.Formatting.{IsErasedTo, IsFormatLeft}
+use Rattle.flash_dev.specs.Formatting.{IsFormatLeft}
 use Rattle.flash_dev.specs.Moments.{Stays}
 use Rattle.flash_dev.specs.Rules.{IsEraseLeft, IsProgramLeft, Leaves}
 use Rattle.var_types.specs.Layout.{block_size, image_size}
 use Rattle.flash_dev.proofs.Calls.{told_at}
-use Rattle.flash_dev.proofs.Erased.{AreErased, blocks_erased, front_erased}
+use Rattle.flash_dev.proofs.Erased.{AreErased, blocks_erased, erased_behind, erased_front, front_erased}
 use Rattle.flash_dev.proofs.Moments.{stays_then}
 
 -- an image of which nothing is erased yet
 pub format_begins : (image : List ℕ) → IsFormatLeft image image
 format_begins image = inl (0, record { few = lit< tt; len = refl; erased = refl; behind = refl })
 
--- the front that is erased, and what stands behind it
-erased_front : (n : ℕ) (image : List ℕ) → take n (front_erased n image) ≡ replicate n 255
-erased_front n image = take_at (replicate n 255) (drop n image) n (length-replicate {A = ℕ} n 255)
-
-erased_behind : (n count : ℕ) (image : List ℕ) → drop (n + count) (front_erased n image) ≡ drop (n + count) image
-erased_behind n count image =
-    sym (drop-drop count n (front_erased n image))
-    ∙ ap (drop count) (drop_at (replicate n 255) (drop n image) n (length-replicate {A = ℕ} n 255))
-    ∙ drop-drop count n image
-
 -- an image keeps its length where its front is erased
 erased_length : (n : ℕ) (image : List ℕ) → n ≤ length image → length (front_erased n image) ≡ length image
-erased_length n image h = length-append (replicate n 255) (drop n image) ∙ omega (arith, length-replicate {A = ℕ} n 255, length-drop n image)
+erased_length n image h = length-append (replicate n 0xFF) (drop n image) ∙ omega (arith, length-replicate {A = ℕ} n 0xFF, length-drop n image)
 
 -- the next block is erased, and that fails or is interrupted
 pub format_goes_on : (block : ℕ) (image cells left : List ℕ) → length image ≡ image_size → block_size * block < image_size → cells ≡ blocks_erased block image
@@ -43,10 +33,10 @@ format_goes_on block image cells left size few erased is = inl (
 )
 
 -- all blocks are erased, and the headers are programmed
-pub format_ends : (headers image cells left : List ℕ) → headers ≡ blank_headers → cells ≡ replicate image_size 255 → IsProgramLeft 0 headers cells left
+pub format_ends : (headers image cells left : List ℕ) → headers ≡ blank_headers → cells ≡ replicate image_size 0xFF → IsProgramLeft 0 headers cells left
     → IsFormatLeft image left
 format_ends headers image cells left same erased is =
-    inr (subst (λ bytes. IsProgramLeft 0 bytes (replicate image_size 255) left) same (subst (λ old. IsProgramLeft 0 headers old left) erased is))
+    inr (subst (λ bytes. IsProgramLeft 0 bytes (replicate image_size 0xFF) left) same (subst (λ old. IsProgramLeft 0 headers old left) erased is))
 
 module _ {F : Type 0} {moment : F → ℕ} {left_since : F → ℕ → List ℕ → Type 0} {holds : F → Option (List ℕ)} (old mid new : F) where
   -- the moments of a formatting, by one block more

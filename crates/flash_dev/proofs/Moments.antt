@@ -1,7 +1,7 @@
 -- Laws of what a power loss at any moment of some calls leaves.
-use Rattle.std.proofs.Common.{◌≡◌, ◌⊎◌, inl, inr, ⊎_elim, ℕ, ◌≤◌, List, Option, Some, None, IfSome, arith, ◌∙◌, sym, subst}
+use Rattle.std.proofs.Common.{◌≡◌, inl, inr, ⊎_elim, ℕ, List, Option, Some, IfSome, arith, sym, subst}
 use Rattle.flash_dev.specs.Moments.{Stays}
-use Rattle.flash_dev.specs.Rules.{Leaves, MayLeave}
+use Rattle.flash_dev.specs.Rules.{Leaves}
 use Rattle.flash_dev.proofs.Calls.{leaves_same, leaves_then, leaves_weaken, may_then, may_weaken}
 
 module _ {F : Type 0} {moment : F → ℕ} {left_since : F → ℕ → List ℕ → Type 0} {holds : F → Option (List ℕ)} where
@@ -31,7 +31,7 @@ module _ {F : Type 0} {moment : F → ℕ} {left_since : F → ℕ → List ℕ 
     each = λ t left early since.
         ⊎_elim
         (λ past.
-            ⊎_elim inl (λ may. inr (may_weaken First Both (holds old) left may (λ image told. weaker image left told))) (run.each t left early past))
+        ⊎_elim inl (λ may. inr (may_weaken First Both (holds old) left may (λ image told. weaker image left told))) (run.each t left early past))
         (λ may. inr (may_then End Second Both (holds old) (holds mid) left end may (λ image cells told now. chained image cells left told now)))
         (next.each t left (omega (arith, early, run.later)) since);
     now = leaves_then End Second Both (holds old) (holds mid) (holds new) end next.now chained;

@@ -1,5 +1,5 @@
 //! The image without variables, as it is written to a flash.
-ghost use Rattle.std.specs.Prelude.{◌≡◌, ◌≢◌, ◌⊎◌, ◌≤◌, ◌*◌, ℕ, Err, IfErr, OnOk, OnErr, replicate};
+ghost use Rattle.std.specs.Prelude.{◌≡◌, ◌≢◌, ◌⊎◌, ℕ, Err, IfErr, OnOk, replicate};
 ghost use Rattle.outside.specs.Faults.{HasCause, HasCauseAt};
 ghost use Rattle.flash_dev.specs.Blank.{blank_image};
 ghost use Rattle.flash_dev.specs.Formatting.{IsFormatLeft};

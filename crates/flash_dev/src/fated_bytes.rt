@@ -1,7 +1,7 @@
 //! The bytes of a flash in memory, changed by the fate of a call.
-ghost use Rattle.std.specs.Prelude.{◌≡◌, ◌+◌, ◌*◌, ◌≤◌, length, take, drop, ◌++◌};
+ghost use Rattle.std.specs.Prelude.{◌≡◌, ◌+◌, ◌*◌, ◌≤◌, length};
 ghost use Rattle.flash_dev.specs.MemFlash.{even_bytes, fated_erase, fated_program, torn_erase, torn_program};
-ghost use Rattle.flash_dev.specs.Rules.{AreBytesLeft, IsEraseLeft, IsProgramLeft, block_filled, cleared, programmed};
+ghost use Rattle.flash_dev.specs.Rules.{AreBytesLeft, IsEraseLeft, IsProgramLeft, cleared, programmed};
 ghost use Rattle.var_types.specs.Layout.{block_size};
 
 use crate::fate::Fate;

@@ -1,7 +1,7 @@
 //! The headers at the front of an image: what they say, and the first field that is none of a variable volume and its store.
-ghost use Rattle.std.specs.Prelude.{◌≡◌, ◌≢◌, ◌==◌, ◌/◌, ◌%◌, ◌≤◌, ℕ, Err, IfSome, OnOk, length};
+ghost use Rattle.std.specs.Prelude.{◌≡◌, ◌≢◌, ◌==◌, ◌/◌, ◌%◌, ◌≤◌, ℕ, Err, IfOk, IfSome, OnOk, length, take};
 ghost use Rattle.std.specs.List.{list_all};
-ghost use Rattle.outside.specs.Faults.{HasCauseAt};
+ghost use Rattle.outside.specs.Faults.{HasCause, HasCauseAt};
 ghost use Rattle.flash_dev.specs.Geometry.{blocks_check, geometry_of, image_geometry, is_volume_length, number_at, store_check, sum_check, sum_of_words, volume_check};
 ghost use Rattle.flash_dev.specs.Moments.{Stays};
 ghost use Rattle.flash_dev.specs.Rules.{IsKept};
@@ -9,7 +9,7 @@ ghost use Rattle.var_types.specs.Layout.{block_size, headers_size, image_size};
 
 use crate::guids::{AUTHENTICATED_VARIABLE_GUID, SYSTEM_NV_DATA_GUID};
 use crate::layout::{BLOCK_BYTES, HEADERS_BYTES, IMAGE_BYTES, VOLUME_BYTES};
-use crate::{Flash, ImageFault};
+use crate::{Device, Flash, ImageFault};
 use byteorder::{ByteOrder, LittleEndian};
 
 /// What the headers of an image say of its records.
@@ -149,6 +149,20 @@ pub fn geometry_of(first: &[u8]) -> Result<Geometry, ImageFault>
     Ok(Geometry { plain: false })
 }
 
+// The headers of the image that a flash holds.
+fn read_headers<F: Flash>(flash: &mut F) -> Result<[u8; HEADERS_BYTES], Device>
+    requires { headers_size ≤ F.size flash.old }
+    ensures headers { IfOk result (λ first. IfSome (F.holds flash.old) (λ image. first ≡ take headers_size image)) }
+    ensures kept { F.holds flash.new ≡ F.holds flash.old }
+    ensures same_size { F.size flash.new ≡ F.size flash.old }
+    ensures at_any_moment { Stays IsKept F.moment F.left_since F.holds flash.old flash.new }
+    ensures cause { HasCause (F.fault_count flash.old) (F.fault_count flash.new) result }
+{
+    let mut first = [0; HEADERS_BYTES];
+    flash.read(0, &mut first)?;
+    Ok(first)
+}
+
 /// The geometry of the image that a flash holds, read from its front; nothing is written.
 pub fn read_geometry<F: Flash>(flash: &mut F) -> Result<Geometry, ImageFault>
     ensures geometry { result ≢ Err ImageFault.Device → IfSome (F.holds flash.old) (λ image. result ≡ image_geometry image) }
@@ -170,7 +184,6 @@ pub fn read_geometry<F: Flash>(flash: &mut F) -> Result<Geometry, ImageFault>
             want: IMAGE_BYTES,
         });
     }
-    let mut first = [0; HEADERS_BYTES];
-    flash.read(0, &mut first)?;
+    let first = read_headers(flash)?;
     geometry_of(&first)
 }

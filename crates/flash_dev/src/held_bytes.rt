@@ -1,5 +1,5 @@
 //! The bytes that a flash holds, changed by a call that is done.
-ghost use Rattle.std.specs.Prelude.{◌≡◌, ◌+◌, ◌*◌, ◌≤◌, length, take, drop, ◌++◌};
+ghost use Rattle.std.specs.Prelude.{◌≡◌, ◌+◌, ◌*◌, ◌≤◌, length};
 ghost use Rattle.flash_dev.specs.Rules.{AreBytesLeft, IsEraseLeft, IsProgramLeft, block_filled, cleared, programmed};
 ghost use Rattle.var_types.specs.Layout.{block_size};
 

@@ -1,13 +1,13 @@
-ghost use Rattle.std.specs.Prelude.{◌≡◌, ◌↔◌, ◌+◌, ◌*◌, ◌≤◌, ℕ, List, Some, IfSome, IsOk, length, take, drop, refl, OnOk, OnErr};
+ghost use Rattle.std.specs.Prelude.{◌≡◌, ◌↔◌, ◌+◌, ◌*◌, ◌≤◌, Some, IfSome, IsOk, length, take, drop, refl, OnOk, OnErr};
 ghost use Rattle.outside.specs.Faults.{HasCause, one_more};
 ghost use Rattle.flash_dev.specs.declared.fate.Fate.TheVariants.{Done};
 ghost use Rattle.flash_dev.specs.MemFlash.{StaysInMemory, fate_of, fated_erase, fated_program, next_call};
-ghost use Rattle.flash_dev.specs.Rules.{IsEraseLeft, IsKept, IsProgramLeft, Leaves, MayLeave, block_filled, programmed};
+ghost use Rattle.flash_dev.specs.Rules.{IsEraseLeft, IsKept, IsProgramLeft, Leaves, block_filled, programmed};
 ghost use Rattle.flash_dev.specs.Told.{bytes_told};
 ghost use Rattle.var_types.specs.Layout.{block_size};
 
-use crate::fated_bytes::{erase_by, program_by};
 use crate::fate::{Fate, fate_of};
+use crate::fated_bytes::{erase_by, program_by};
 use crate::fault_plan::FaultPlan;
 use crate::{Device, Flash};
 use std::marker::Model;

@@ -1,4 +1,4 @@
-ghost use Rattle.std.specs.Prelude.{◌≡◌, ◌+◌, ◌*◌, ◌≤◌, [], ◌∷◌, ◌++◌, ℕ, List, Some, IfSome, length, take, drop, refl, OnOk, OnErr, IsOk};
+ghost use Rattle.std.specs.Prelude.{◌≡◌, ◌+◌, ◌*◌, ◌≤◌, [], ◌∷◌, ◌++◌, Some, IfSome, length, take, drop, refl, OnOk, OnErr, IsOk};
 ghost use Rattle.std.specs.List.{Contains};
 ghost use Rattle.outside.specs.Faults.{HasCause, one_more};
 ghost use Rattle.flash_dev.specs.RecordingFlash.{StaysRecorded, images_since};

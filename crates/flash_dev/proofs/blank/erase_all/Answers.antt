@@ -1,4 +1,4 @@
-use Rattle.std.proofs.Common.{◌≡◌, ◌*◌, ◌<◌, ℕ, List, Option, arith, refl, subst, sym, ◌∙◌, length, IfSome}
+use Rattle.std.proofs.Common.{◌≡◌, ◌*◌, ℕ, List, Option, arith, refl, subst, ◌∙◌, length, IfSome}
 use Rattle.flash_dev.specs.Formatting.{IsFormatLeft}
 use Rattle.var_types.specs.Layout.{block_size, image_size}
 use Rattle.flash_dev.proofs.Erased.{last_block, no_blocks, one_block}

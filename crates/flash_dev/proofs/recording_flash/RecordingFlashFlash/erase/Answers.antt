@@ -1,7 +1,6 @@
 use Rattle.std.proofs.Common.{ℕ, List, refl, ap, subst, ◌∙◌}
 use Rattle.flash_dev.specs.RecordingFlash.{RecordedState}
 use Rattle.flash_dev.specs.Rules.{IsEraseLeft}
-use Rattle.flash_dev.proofs.Left.{none_leaves}
 use Rattle.flash_dev.proofs.Recorded.{recorded_moments, unrecorded_moments}
 use Rattle.flash_dev.proofs.recording_flash.RecordingFlashFlash.erase.Goals as goal
 

@@ -1,4 +1,4 @@
-use Rattle.std.proofs.Common.{ℕ, List, refl, ap, subst, ◌∙◌}
+use Rattle.std.proofs.Common.{ℕ, List, ap, subst, ◌∙◌}
 use Rattle.flash_dev.specs.RecordingFlash.{RecordedState}
 use Rattle.flash_dev.specs.Rules.{IsProgramLeft}
 use Rattle.flash_dev.proofs.Left.{none_leaves}

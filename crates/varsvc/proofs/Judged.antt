@@ -1,5 +1,5 @@
 -- Where no call fails, what is accepted is done, and what is refused ends with its refusal.
-use Rattle.std.proofs.Common.{◌≡◌, ◌≢◌, ◌⊎◌, ℕ, ◌==◌, Bool, true, false, List, Option, Some, None, Result, Ok, Err, IsOk, IsErr, IsTrue, refl, inl, inr, ⊎_elim, subst, sym, arith}
+use Rattle.std.proofs.Common.{◌≡◌, ◌≢◌, ◌⊎◌, ℕ, Bool, false, List, Option, Some, None, Result, Ok, Err, IsOk, IsErr, IsTrue, inl, inr, ⊎_elim, subst, sym, true≢false}
 use Rattle.std.proofs.lemmas.Bool.{cases_eq}
 use Rattle.flash_dev.specs.Geometry.{image_geometry}
 use Rattle.script_text.specs.Script.{script_of}
@@ -43,17 +43,17 @@ IsVerdict r status = (r.accepted → (status ≡ 0) ⊎ (status ≡ 8)) × (r.re
 -- an input that is accepted is not refused
 no_script : (input : Option (List ℕ)) (text : List ℕ) → IsScript input → RefusesScript input text → ⊥
 no_script None text is refused = is
-no_script (Some bytes) text is refused = subst (λ r. IsOk r) refused.1 is
+no_script (Some bytes) text is refused = true≢false (sym (subst (λ r. IsOk r) refused.1 is))
 
 -- an input that is refused is not run
 no_report : (input : Option (List ℕ)) (lacking : Bool) (text : List ℕ) → IsNoScript input → Reports input lacking text → ⊥
 no_report None lacking text is reports = is
-no_report (Some bytes) lacking text is reports = subst (λ r. IsErr r) reports.1.script is
+no_report (Some bytes) lacking text is reports = true≢false (sym (subst (λ r. IsErr r) reports.1.script is))
 
 -- an image that is accepted is not refused
 no_refusal : (image : Option (List ℕ)) (size : ℕ) (text : List ℕ) → IsImage image → RefusesList image size text → ⊥
 no_refusal None size text is refused = is
-no_refusal (Some bytes) size text is refused = subst (λ r. IsOk r) refused.1.told is
+no_refusal (Some bytes) size text is refused = true≢false (sym (subst (λ r. IsOk r) refused.1.told is))
 
 -- an image that is refused is not listed
 no_listing : (image : Option (List ℕ)) (size : ℕ) (text : List ℕ) → IsNoImage image → Lists image size text → ⊥
@@ -61,8 +61,8 @@ no_listing None size text is lists = is
 no_listing (Some bytes) size text is lists = not_both (image_geometry bytes) is lists.listing.0
   where
     not_both : {A E : Type 0} (r : Result A E) → IsErr r → IsOk r → ⊥
-    not_both (Ok x) e o = e
-    not_both (Err x) e o = o
+    not_both (Ok x) e o = true≢false (sym e)
+    not_both (Err x) e o = true≢false (sym o)
 
 verdict_run : (input : Option (List ℕ)) (status : ℕ) → IsJudged (run_row input) status → IsVerdict (run_row input) status
 verdict_run input status j = (

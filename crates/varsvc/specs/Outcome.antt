@@ -22,7 +22,7 @@ abbrev pub NoText : List ℕ → Type 0
 NoText text = ⊥
 
 -- what a verb does, as its line of the table of verbs
-pub record Row : Type 0 where
+pub record Row : Type 1 where
   -- the texts that it prints where all is done, and where it refuses its words, its script or its image
   pub output : List ℕ → Type 0
   pub usage : List ℕ → Type 0

@@ -9,7 +9,7 @@ use crate::variables::variables_of;
 use crate::word::Word;
 use std::alloc::Global;
 use std::collections::BTreeMap;
-use var_region::{Found, Offer, Region};
+use var_region::{Found, Region};
 use var_types::{Bytes, Key, OutOfMemory};
 
 #[tactic(auto, unfolding(crate::specs::Listing::variable_line))]
@@ -28,17 +28,17 @@ fn write_variable<'a>(
     write_line(&[guid, name, attributes, stamp, data], out)
 }
 
-fn write_entries(held: &BTreeMap<Key, Offer>, out: &mut Bytes) -> Result<(), OutOfMemory>
+fn write_entries(held: &BTreeMap<Key, Found>, out: &mut Bytes) -> Result<(), OutOfMemory>
     ensures { OnOk result (out.new ≡ out.old ++ flat_map variable_line (map entry_of held.now.entries)) }
 {
-    for (key, offer) in held {
-        write_variable(key, &offer.found, out)?;
+    for (key, found) in held {
+        write_variable(key, found, out)?;
     }
     Ok(())
 }
 
 #[tactic(auto, unfolding(crate::specs::Listing::listing_text))]
-fn write_variables(held: &BTreeMap<Key, Offer>, out: &mut Bytes) -> Result<(), OutOfMemory>
+fn write_variables(held: &BTreeMap<Key, Found>, out: &mut Bytes) -> Result<(), OutOfMemory>
     ensures { OnOk result (out.new ≡ out.old ++ listing_text (map entry_of held.now.entries)) }
 {
     let count = held.len() as u64;

@@ -9,7 +9,7 @@ use crate::variables::variables_of;
 use crate::word::Word;
 use std::alloc::Global;
 use std::collections::BTreeMap;
-use var_region::{Found, Offer, Region};
+use var_region::{Found, Region};
 use var_types::{Key, OutOfMemory, Put};
 
 #[tactic(auto, unfolding(crate::specs::Listing::variable_line))]
@@ -24,16 +24,16 @@ fn write_variable<'a, P: Put>(key: &'a Key, found: &'a Found<'a>, out: &mut P)
     write_line(&[guid, name, attributes, stamp, data], out);
 }
 
-fn write_entries<P: Put>(held: &BTreeMap<Key, Offer>, out: &mut P)
+fn write_entries<P: Put>(held: &BTreeMap<Key, Found>, out: &mut P)
     ensures { P.Puts out.old out.new (flat_map variable_line (map entry_of held.now.entries)) }
 {
-    for (key, offer) in held {
-        write_variable(key, &offer.found, out);
+    for (key, found) in held {
+        write_variable(key, found, out);
     }
 }
 
 #[tactic(auto, unfolding(crate::specs::Listing::listing_text))]
-fn write_variables<P: Put>(held: &BTreeMap<Key, Offer>, out: &mut P)
+fn write_variables<P: Put>(held: &BTreeMap<Key, Found>, out: &mut P)
     ensures { P.Puts out.old out.new (listing_text (map entry_of held.now.entries)) }
 {
     let count = held.len() as u64;

@@ -4,7 +4,7 @@ use Rattle.script_text.specs.declared.script_fault.ScriptFault.{ScriptFault}
 use Rattle.script_text.specs.Script.{script_of}
 use Rattle.var_types.specs.declared.answered.Answered.{Answered}
 use Rattle.var_types.specs.declared.call.Call.{Call}
-use Rattle.var_types.specs.Session.{AreStepped, calls_of}
+use Rattle.var_types.specs.Session.{AreStepped, calls_of, history_of}
 use Rattle.var_types.specs.State.{start}
 use Rattle.varsvc.specs.declared.plan.Plan.{Plan}
 use Rattle.varsvc.specs.declared.plan.Plan.TheVariants.{Print, NoMemory}
@@ -41,7 +41,7 @@ IsInput-script (Some bytes) input h = ap script_of h ∙ script_of-take 1048577 
 -- the report of what is read is that of all that was left
 Reports-input : (left : Option (List ℕ)) (input text : List ℕ) (lacking : Bool) (answered : List Answered)
     → IfSome left (λ bytes. script_of input ≡ script_of bytes)
-    → IsSessionOf input answered → lacks_any answered ≡ lacking → text ≡ session_text answered → Reports left lacking text
+    → IsSessionOf input answered → lacks_any answered ≡ lacking → text ≡ session_text (history_of answered) (answered ∷ []) → Reports left lacking text
 Reports-input None input text lacking answered same session lacks is = tt
 Reports-input (Some bytes) input text lacking answered same session lacks is =
     (answered, record { script = sym same ∙ session.script; stepped = session.stepped }, lacks, is)
@@ -95,7 +95,7 @@ IsRun-script_plan left old new input (Print s text) read h =
     (λ (refused : (s ≡ 3) × (fault : ScriptFault) × (script_of input ≡ Err fault) × (text ≡ script_line fault)).
     subst (λ n. IsRun left old new n text) (sym refused.0)
     (IsRun-script left old new text (RefusesScript-input left input text refused.1 same refused.2 refused.3)))
-    (λ (ran : (answered : List Answered) × IsSessionOf input answered × (s ≡ report_status answered) × (text ≡ session_text answered)).
+    (λ (ran : (answered : List Answered) × IsSessionOf input answered × (s ≡ report_status answered) × (text ≡ session_text (history_of answered) (answered ∷ []))).
     subst (λ n. IsRun left old new n text) (sym ran.2)
     (IsRun-session left old new text ran.0 (lacks_any ran.0) refl (λ b e. Reports-input left input text b ran.0 same ran.1 e ran.3)))
     h

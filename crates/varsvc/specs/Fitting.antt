@@ -1,4 +1,4 @@
-use Rattle.std.specs.Prelude.{◌≡◌, ℕ, ◌^◌, ◌<◌, List, All}
+use Rattle.std.specs.Prelude.{◌≡◌, ℕ, ◌^◌, ◌<◌, List, [], ◌∷◌, All}
 use Rattle.var_types.specs.declared.answered.Answered.{Answered}
 use Rattle.var_types.specs.declared.call.Call.{Call}
 use Rattle.var_types.specs.declared.call.Call.TheVariants as call
@@ -15,7 +15,8 @@ use Rattle.var_types.specs.declared.reply.Reply.TheVariants as reply
 use Rattle.var_types.specs.declared.reply.SetReply.{SetReply}
 use Rattle.var_types.specs.declared.reply.SetReply.TheVariants as set
 use Rattle.var_types.specs.Guid.{IsGuid}
-use Rattle.var_types.specs.Session.{calls_of}
+use Rattle.var_types.specs.Values.{AreBytes, AreUnits}
+use Rattle.var_types.specs.Session.{calls_of, history_of}
 use Rattle.varsvc.specs.Report.{session_text}
 
 -- a reply is of its call's kind (UEFI 2.10, 8.2)
@@ -29,13 +30,6 @@ IsOfKind (call.Next c) (reply.Get r) = ⊥
 IsOfKind (call.Next c) (reply.Set r) = ⊥
 IsOfKind (call.Set c) (reply.Get r) = ⊥
 IsOfKind (call.Set c) (reply.Next r) = ⊥
-
--- values are bytes, units of a name, a GUID
-abbrev pub AreBytes : List ℕ → Type 0
-AreBytes bytes = All (λ b. b < 2 ^ 8) bytes
-
-abbrev pub AreUnits : List ℕ → Type 0
-AreUnits units = All (λ u. u < 2 ^ 16) units
 
 -- the parts of a reply are values of their types, as those of a program always are
 abbrev pub HasValuesOfGet : GetReply → Type 0
@@ -82,4 +76,5 @@ IsFitting a = IsOfKind a.call a.reply × HasValues a.reply × (a.place < 2 ^ 64)
 -- for the calls of a script, fitting sessions with one text have the same answered calls, and so the same history (this project's own)
 abbrev pub OneTextOneSession : Type 0
 OneTextOneSession =
-    (xs ys : List Answered) → calls_of xs ≡ calls_of ys → All IsFitting xs → All IsFitting ys → session_text xs ≡ session_text ys → xs ≡ ys
+    (xs ys : List Answered) → calls_of xs ≡ calls_of ys → All IsFitting xs → All IsFitting ys →
+    session_text (history_of xs) (xs ∷ []) ≡ session_text (history_of ys) (ys ∷ []) → xs ≡ ys

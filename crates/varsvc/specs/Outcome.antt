@@ -12,7 +12,7 @@ use Rattle.script_text.specs.declared.script_fault.ScriptFault.{ScriptFault}
 use Rattle.script_text.specs.Script.{script_of}
 use Rattle.var_types.specs.declared.answered.Answered.{Answered}
 use Rattle.var_types.specs.Kept.{kept}
-use Rattle.var_types.specs.Session.{AreStepped, calls_of}
+use Rattle.var_types.specs.Session.{AreStepped, calls_of, history_of}
 use Rattle.var_types.specs.State.{start}
 use Rattle.var_types.specs.Step.{lacks_memory}
 use Rattle.varsvc.specs.declared.order.Order.{Order}
@@ -47,7 +47,7 @@ FailsRead old new text = HasRisen old new × (text ≡ input_line)
 -- this is the report of the session of the input that is told; memory was wanting for some reply, or for none
 abbrev pub Reports : Option (List ℕ) → Bool → List ℕ → Type 0
 Reports left lacking text =
-    IfSome left (λ input. (answered : List Answered) × IsSessionOf input answered × (lacks_any answered ≡ lacking) × (text ≡ session_text answered))
+    IfSome left (λ input. (answered : List Answered) × IsSessionOf input answered × (lacks_any answered ≡ lacking) × (text ≡ session_text (history_of answered) (answered ∷ [])))
 
 -- this is the listing of the variables that the image keeps that is told, which is accepted
 abbrev pub Lists : Option (List ℕ) → List ℕ → Type 0

@@ -1,4 +1,4 @@
-use Rattle.std.specs.Prelude.{◌≡◌, ◌⊎◌, ℕ, List, [], Err, Option, IfSome, max, length, if◌then◌else◌}
+use Rattle.std.specs.Prelude.{◌≡◌, ◌⊎◌, ℕ, List, [], ◌∷◌, Err, Option, IfSome, max, length, if◌then◌else◌}
 use Rattle.flash_dev.specs.declared.image_fault.ImageFault.{ImageFault}
 use Rattle.flash_dev.specs.declared.image_fault.ImageFault.TheVariants as image
 use Rattle.report_text.specs.Listing.{listing_text}
@@ -7,7 +7,7 @@ use Rattle.script_text.specs.Script.{script_of}
 use Rattle.var_types.specs.declared.answered.Answered.{Answered}
 use Rattle.var_types.specs.declared.call.Call.{Call}
 use Rattle.var_types.specs.Kept.{kept}
-use Rattle.var_types.specs.Session.{AreStepped, calls_of}
+use Rattle.var_types.specs.Session.{AreStepped, calls_of, history_of}
 use Rattle.var_types.specs.State.{start}
 use Rattle.varsvc.specs.declared.plan.Plan.{Plan}
 use Rattle.varsvc.specs.declared.plan.Plan.TheVariants.{Print, NoMemory}
@@ -37,7 +37,7 @@ PlansLine status line NoMemory = Unit {0}
 
 -- the plan prints the report of a session, but for want of memory
 abbrev pub PlansReport : List Answered → Plan → Type 0
-PlansReport answered plan = PlansLine (report_status answered) (session_text answered) plan
+PlansReport answered plan = PlansLine (report_status answered) (session_text (history_of answered) (answered ∷ [])) plan
 
 -- the plan prints the report of the session of these calls, but for want of memory
 abbrev pub PlansCalls : List Call → Plan → Type 0
@@ -76,7 +76,7 @@ abbrev pub PlansScript : List ℕ → Plan → Type 0
 PlansScript input NoMemory = Unit {0}
 PlansScript input (Print s text) =
     ((s ≡ 3) × (fault : ScriptFault) × (script_of input ≡ Err fault) × (text ≡ script_line fault))
-    ⊎ ((answered : List Answered) × IsSessionOf input answered × (s ≡ report_status answered) × (text ≡ session_text answered))
+    ⊎ ((answered : List Answered) × IsSessionOf input answered × (s ≡ report_status answered) × (text ≡ session_text (history_of answered) (answered ∷ [])))
 
 -- the plan for the volume of an accepted image that is told: its listing, or that a call of the flash failed
 abbrev pub PlansVolume : Option (List ℕ) → ℕ → ℕ → Plan → Type 0

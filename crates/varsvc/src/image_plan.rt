@@ -13,13 +13,13 @@ ghost use Rattle.varsvc.specs.Plan.{PlansFault, PlansLine, PlansVolume, fault_st
 use crate::fault_lines::write_image_line;
 use crate::input::zeros;
 use crate::order::Order;
-use crate::plan::{Plan, plan_words};
+use crate::plan::{Plan, plan_text, plan_words};
 use crate::words::read_words;
 use flash_dev::{Flash, HEADERS_BYTES, ImageFault, VOLUME_BYTES, format_image, read_geometry};
 use report_text::write_listing;
 use std::alloc::Global;
 use var_region::Region;
-use var_types::Bytes;
+use var_types::{Bytes, TextBuffer};
 
 fn fault_status(fault: ImageFault) -> u8
     ensures { result ≡ fault_status fault }
@@ -33,12 +33,10 @@ fn fault_status(fault: ImageFault) -> u8
 fn plan_fault(alloc: Global, fault: ImageFault) -> Plan
     ensures { PlansFault fault result }
 {
-    let mut text = Bytes::new(alloc);
+    let mut text = TextBuffer::new(alloc);
     let status = fault_status(fault);
-    match write_image_line(fault, &mut text) {
-        Ok(()) => Plan::Print { status, text },
-        Err(_) => Plan::NoMemory,
-    }
+    write_image_line(fault, &mut text);
+    plan_text(status, text)
 }
 
 fn plan_listing(alloc: Global, volume: &[u8]) -> Plan
@@ -46,9 +44,9 @@ fn plan_listing(alloc: Global, volume: &[u8]) -> Plan
     ensures { PlansLine 0 (listing_text (region_map (record { form = Authenticated; bytes = volume.now; first = 100; non_volatile = true }))) result }
 {
     let region = Region::over(volume, HEADERS_BYTES as u32, true);
-    let mut text = Bytes::new(alloc);
+    let mut text = TextBuffer::new(alloc);
     match write_listing(alloc, &region, &mut text) {
-        Ok(()) => Plan::Print { status: 0, text },
+        Ok(()) => plan_text(0, text),
         Err(_) => Plan::NoMemory,
     }
 }

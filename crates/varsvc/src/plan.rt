@@ -1,5 +1,6 @@
-ghost use Rattle.std.specs.Prelude.{◌≡◌, ◌≤◌, [], ◌∷◌, length, IfSome};
+ghost use Rattle.std.specs.Prelude.{◌≡◌, ◌≤◌, ℕ, false, List, [], ◌∷◌, length, IfSome};
 ghost use Rattle.script_text.specs.Script.{script_of};
+ghost use Rattle.var_types.specs.Put.{PutsText};
 ghost use Rattle.varsvc.specs.FaultLines.{input_line, usage_line, script_line};
 ghost use Rattle.varsvc.specs.Outcome.{IsRun};
 ghost use Rattle.varsvc.specs.Plan.{status_of, text_of, PlansLine, PlansReport, PlansCalls, PlansRun, PlansUsage, PlansScript};
@@ -12,55 +13,57 @@ use crate::usage::UsageFault;
 use outside::Source;
 use script_text::{Script, ScriptFault, read_script};
 use std::alloc::Global;
-use var_types::{Answered, Bytes, Call};
+use var_types::{Answered, Bytes, Call, TextBuffer};
 
 /// What a call of the program is to print, and the status that it ends with if that is printed.
 #[derive(Debug, Drop)]
 pub enum Plan {
     Print { status: u8, text: Bytes },
-    /// Memory was wanting, and the line that says so is to be printed.
+    /// The call is out of memory, and the line that says so is to be printed.
     NoMemory,
+}
+
+/// Plans to print a text, unless it is out of memory.
+pub fn plan_text(status: u8, text: TextBuffer) -> Plan
+    ensures { (line : List ℕ) → PutsText (record { bytes = []; lacks = false }) text line → PlansLine status line result }
+{
+    match text.finish() {
+        Ok(text) => Plan::Print { status, text },
+        Err(_) => Plan::NoMemory,
+    }
 }
 
 fn plan_usage(alloc: Global, fault: UsageFault) -> Plan
     ensures { PlansLine 2 (usage_line fault) result }
 {
-    let mut text = Bytes::new(alloc);
-    match write_usage_line(fault, &mut text) {
-        Ok(()) => Plan::Print { status: 2, text },
-        Err(_) => Plan::NoMemory,
-    }
+    let mut text = TextBuffer::new(alloc);
+    write_usage_line(fault, &mut text);
+    plan_text(2, text)
 }
 
 fn plan_input(alloc: Global) -> Plan
     ensures { PlansLine 6 input_line result }
 {
-    let mut text = Bytes::new(alloc);
-    match write_input_line(&mut text) {
-        Ok(()) => Plan::Print { status: 6, text },
-        Err(_) => Plan::NoMemory,
-    }
+    let mut text = TextBuffer::new(alloc);
+    write_input_line(&mut text);
+    plan_text(6, text)
 }
 
 fn plan_refused(alloc: Global, fault: ScriptFault) -> Plan
     ensures { PlansLine 3 (script_line fault) result }
 {
-    let mut text = Bytes::new(alloc);
-    match write_script_line(fault, &mut text) {
-        Ok(()) => Plan::Print { status: 3, text },
-        Err(_) => Plan::NoMemory,
-    }
+    let mut text = TextBuffer::new(alloc);
+    write_script_line(fault, &mut text);
+    plan_text(3, text)
 }
 
 fn plan_report(alloc: Global, answered: &[Answered]) -> Plan
     ensures { PlansReport answered.now result }
 {
-    let mut text = Bytes::new(alloc);
+    let mut text = TextBuffer::new(alloc);
     let status = if any_lacks_memory(answered) { 8 } else { 0 };
-    match write_session(answered, &mut text) {
-        Ok(()) => Plan::Print { status, text },
-        Err(_) => Plan::NoMemory,
-    }
+    write_session(answered, &mut text);
+    plan_text(status, text)
 }
 
 // At least one change is allowed, so that the limit is none for an empty script.

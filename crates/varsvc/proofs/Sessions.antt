@@ -25,12 +25,10 @@ indexed-changes index (x ∷ xs) =
     ]
 
 -- the texts so far and that of the next answered call
-pub indexed-more : (text : ℕ → Answered → List ℕ) (out new : List ℕ) (xs : List Answered) (i : ℕ) (a : Answered) (before : List ℕ) → i < length xs
-    → a ≡ get_or xs i a → before ≡ out ++ indexed text 0 (take i xs) → new ≡ before ++ text i a → new ≡ out ++ indexed text 0 (take (i + 1) xs)
-indexed-more text out new xs i a before l at sofar more =
+pub indexed-more : (text : ℕ → Answered → List ℕ) (xs : List Answered) (i : ℕ) (a : Answered) → i < length xs → a ≡ get_or xs i a
+    → indexed text 0 (take i xs) ++ text i a ≡ indexed text 0 (take (i + 1) xs)
+indexed-more text xs i a l at =
     let len : length (take i xs) ≡ i = length-take-le i xs (omega arith) in
-    more ∙ ap (λ t. t ++ text i a) sofar ∙ append_assoc out (indexed text 0 (take i xs)) (text i a)
-    ∙ ap (λ t. out ++ t) (
     ap (λ n. indexed text 0 (take i xs) ++ text n a) (omega (arith, len))
     ∙ sym (indexed-snoc text 0 (take i xs) a)
-    ∙ ap (indexed text 0) (ap (λ x. take i xs ++ x ∷ []) at ∙ sym (take_more xs i a l)))
+    ∙ ap (indexed text 0) (ap (λ x. take i xs ++ x ∷ []) at ∙ sym (take_more xs i a l))

@@ -1,9 +1,11 @@
-use Rattle.std.specs.Prelude.{ℕ, ◌^◌, ◌<◌, List, All}
+use Rattle.std.specs.Prelude.{◌≡◌, ℕ, ◌^◌, ◌<◌, List, [], ◌∷◌, All}
 use Rattle.var_types.specs.declared.answered.Answered.{Answered}
+use Rattle.var_types.specs.declared.call.Call.{Call}
+use Rattle.var_types.specs.declared.call.Call.TheVariants as call
 use Rattle.var_types.specs.declared.name.NameFault.{NameFault}
 use Rattle.var_types.specs.declared.name.NameFault.TheVariants as fault
-use Rattle.var_types.specs.declared.set_reason.SetReason.{SetReason}
-use Rattle.var_types.specs.declared.set_reason.SetReason.TheVariants as reason
+use Rattle.var_types.specs.declared.reason.SetReason.{SetReason}
+use Rattle.var_types.specs.declared.reason.SetReason.TheVariants as reason
 use Rattle.var_types.specs.declared.reply.GetReply.{GetReply}
 use Rattle.var_types.specs.declared.reply.GetReply.TheVariants as get
 use Rattle.var_types.specs.declared.reply.NextReply.{NextReply}
@@ -13,14 +15,21 @@ use Rattle.var_types.specs.declared.reply.Reply.TheVariants as reply
 use Rattle.var_types.specs.declared.reply.SetReply.{SetReply}
 use Rattle.var_types.specs.declared.reply.SetReply.TheVariants as set
 use Rattle.var_types.specs.Guid.{IsGuid}
-use Rattle.var_types.specs.Step.{IsOfKind}
+use Rattle.var_types.specs.Values.{AreBytes, AreUnits}
+use Rattle.var_types.specs.Session.{calls_of, history_of}
+use Rattle.varsvc.specs.Report.{session_text}
 
--- values are bytes, units of a name, a GUID
-abbrev pub AreBytes : List ℕ → Type 0
-AreBytes bytes = All (λ b. b < 2 ^ 8) bytes
-
-abbrev pub AreUnits : List ℕ → Type 0
-AreUnits units = All (λ u. u < 2 ^ 16) units
+-- a reply is of its call's kind (UEFI 2.10, 8.2)
+abbrev pub IsOfKind : Call → Reply → Type 0
+IsOfKind (call.Get c) (reply.Get r) = Unit {0}
+IsOfKind (call.Next c) (reply.Next r) = Unit {0}
+IsOfKind (call.Set c) (reply.Set r) = Unit {0}
+IsOfKind (call.Get c) (reply.Next r) = ⊥
+IsOfKind (call.Get c) (reply.Set r) = ⊥
+IsOfKind (call.Next c) (reply.Get r) = ⊥
+IsOfKind (call.Next c) (reply.Set r) = ⊥
+IsOfKind (call.Set c) (reply.Get r) = ⊥
+IsOfKind (call.Set c) (reply.Next r) = ⊥
 
 -- the parts of a reply are values of their types, as those of a program always are
 abbrev pub HasValuesOfGet : GetReply → Type 0
@@ -60,10 +69,12 @@ HasValues (reply.Get r) = HasValuesOfGet r
 HasValues (reply.Next r) = HasValuesOfNext r
 HasValues (reply.Set r) = HasValuesOfSet r
 
--- the parts of an answered call's reply and its place are values of their types
-abbrev pub HasValuesOfAnswered : Answered → Type 0
-HasValuesOfAnswered a = HasValues a.reply × (a.place < 2 ^ 64)
-
 -- an answered call has a reply of its kind, and its parts are values of their types (this project's own)
 abbrev pub IsFitting : Answered → Type 0
 IsFitting a = IsOfKind a.call a.reply × HasValues a.reply × (a.place < 2 ^ 64)
+
+-- for the calls of a script, fitting sessions with one text have the same answered calls, and so the same history (this project's own)
+abbrev pub OneTextOneSession : Type 0
+OneTextOneSession =
+    (xs ys : List Answered) → calls_of xs ≡ calls_of ys → All IsFitting xs → All IsFitting ys →
+    session_text (history_of xs) (xs ∷ []) ≡ session_text (history_of ys) (ys ∷ []) → xs ≡ ys

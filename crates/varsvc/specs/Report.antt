@@ -17,8 +17,8 @@ unfoldable pub entry_line : Entry → List ℕ
 entry_line entry = line_text (decimal entry.number ∷ decimal entry.processor ∷ decimal entry.index ∷ call_text entry.call ∷ [])
 
 -- the line of the change that an answered call makes, if it makes one
-abbrev pub change_lines : ℕ → ℕ → Answered → List ℕ
-change_lines processor index a = if is_change a.reply then entry_line (entry_of processor index a) else []
+abbrev pub change_lines : ℕ → Answered → List ℕ
+change_lines index a = if is_change a.reply then entry_line (entry_of index a) else []
 
 -- the lines of a history: how many changes, and each of them (this project's own)
 unfoldable pub history_lines : List Entry → List ℕ
@@ -38,7 +38,7 @@ abbrev pub indexed : (ℕ → Answered → List ℕ) → ℕ → List Answered �
 indexed text index [] = []
 indexed text index (a ∷ rest) = text index a ++ indexed text (index + 1) rest
 
--- the lines of a processor: how many calls, and each reply (this project's own)
+-- the lines of a processor: its number, how many calls it made, and each reply (this project's own)
 unfoldable pub processor_lines : ℕ → List Answered → List ℕ
 processor_lines processor answered =
     line_text (word_text word.Processor ∷ decimal processor ∷ word_text word.Calls ∷ decimal (length answered) ∷ []) ++ indexed answer_line 0 answered
@@ -48,7 +48,6 @@ abbrev pub processors_text : ℕ → List (List Answered) → List ℕ
 processors_text processor [] = []
 processors_text processor (answered ∷ rest) = processor_lines processor answered ++ processors_text (processor + 1) rest
 
--- the report of a session: its history, the replies of each processor, and the end (this project's own)
+-- the report of a session: its history, the replies to each processor, and the end (this project's own)
 unfoldable pub session_text : List Entry → List (List Answered) → List ℕ
-session_text history processors =
-    history_lines history ++ (processors_text 0 processors ++ line_text (word_text word.End ∷ []))
+session_text history processors = history_lines history ++ (processors_text 0 processors ++ line_text (word_text word.End ∷ []))

@@ -7,5 +7,5 @@ pub returns-in-Ok-clause-run : goal.returns-in-Ok-clause-run
 returns-in-Ok-clause-run g c =
     IsRun-script_plan (g.S.Source.left c.args.source.now) (g.S.Source.faults c.args.source.now) (g.S.Source.faults c.read_input.new.source)
     c.as_slice.result.now c.plan_script.result
-    (subst (IsInput (g.S.Source.left c.args.source.now)) (sym c.as_slice.ensures) c.in-Ok.ensures.bytes)
+    (subst (IsInput (g.S.Source.left c.args.source.now)) (sym c.as_slice.ensures.items) c.in-Ok.ensures.bytes)
     c.plan_script.ensures

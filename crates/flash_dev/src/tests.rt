@@ -110,21 +110,6 @@ fn listed_calls_fail_and_later_ones_succeed(rt: HostRuntime) -> Result<(), Fail>
 }
 
 #[test]
-fn a_read_that_fails_leaves_the_piece(rt: HostRuntime) -> Result<(), Fail> {
-    let alloc = rt.alloc();
-    let mut flash = failing(alloc, vec![in alloc; 1, 2, 3, 4]?, &[0])?;
-    let mut piece = [7; 2];
-    let answers: [(bool, [u8; 2], u32); 2] = [(false, [7, 7], 1), (true, [2, 3], 2)];
-    for (is_done, held, calls) in answers {
-        assert_eq!(rt; reads(&rt, &mut flash, 1, &mut piece), is_done);
-        assert_eq!(rt; piece.as_slice(), held.as_slice());
-        assert_eq!(rt; flash.calls(), calls);
-        assert_eq!(rt; flash.faults(), 1);
-    }
-    Ok(())
-}
-
-#[test]
 fn a_program_is_torn_where_the_flash_stops(rt: HostRuntime) -> Result<(), Fail> {
     let alloc = rt.alloc();
     let cases: [(Torn, [u8; 5]); 3] = [

@@ -3,8 +3,6 @@
 
 mod above;
 mod find;
-#[cfg(test)]
-mod find_tests;
 mod found;
 mod laws;
 mod lives;

@@ -1,4 +1,4 @@
-use Rattle.std.proofs.Common.{◌≡◌, ◌+◌, ◌≤◌, List, [], ◌∷◌, length}
+use Rattle.std.proofs.Common.{◌≡◌, ◌+◌, ◌≤◌, [], ◌∷◌, length}
 use Rattle.std.specs.Str.Lines.{lines}
 use Rattle.script_text.specs.Script.{calls_from, most_script_bytes}
 use Rattle.script_text.proofs.script.calls_of.Given as goal

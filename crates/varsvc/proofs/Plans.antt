@@ -21,6 +21,20 @@ planned_line status line held InputFault put plans = plans
 planned_line status line held DeviceFault put plans = plans
 planned_line status line held NoMemory put plans = tt
 
+-- the same, by what a text in memory is at first
+pub planned : (status : ℕ) (line : List ℕ) (start held : Text) (plan : Plan) → start ≡ record { bytes = []; lacks = false } → PutsText start held line
+    → PlansText status held plan → PlansLine status line plan
+planned status line start held plan is put plans = planned_line status line held plan (subst (λ (s : Text). PutsText s held line) is put) plans
+
+-- the plan of the line of a fault that is no failed call of the flash
+pub plans_fault : (fault : ImageFault) (plan : Plan) → fault ≢ image.Device → PlansLine 4 (image_line fault) plan → PlansFault fault plan
+plans_fault (image.ImageSize have want) plan other plans = plans
+plans_fault (image.NotAVolume at) plan other plans = plans
+plans_fault (image.BlockSize value) plan other plans = plans
+plans_fault (image.BadSum sum) plan other plans = plans
+plans_fault (image.NotAStore at) plan other plans = plans
+plans_fault image.Device plan other plans = absurd (other refl)
+
 -- the plan of a line has the text that goes with its status
 pub line_text : (r : Row) (status : ℕ) (line : List ℕ) (plan : Plan) → IsText r status line → PlansLine status line plan
     → IsText r (status_of plan) (text_of plan)

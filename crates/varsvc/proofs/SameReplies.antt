@@ -6,8 +6,8 @@ use Rattle.var_types.specs.declared.guid.Guid.{Guid}
 use Rattle.var_types.specs.declared.key.Key.{Key}
 use Rattle.var_types.specs.declared.name.NameFault.{NameFault}
 use Rattle.var_types.specs.declared.name.NameFault.TheVariants as name
-use Rattle.var_types.specs.declared.reason.SetReason.{SetReason}
-use Rattle.var_types.specs.declared.reason.SetReason.TheVariants as reason
+use Rattle.var_types.specs.declared.set_reason.SetReason.{SetReason}
+use Rattle.var_types.specs.declared.set_reason.SetReason.TheVariants as reason
 use Rattle.var_types.specs.declared.reply.GetReply.{GetReply}
 use Rattle.var_types.specs.declared.reply.GetReply.TheVariants as get
 use Rattle.var_types.specs.declared.reply.NextReply.{NextReply}
@@ -16,7 +16,7 @@ use Rattle.var_types.specs.declared.reply.Reply.{Reply}
 use Rattle.var_types.specs.declared.reply.Reply.TheVariants as reply
 use Rattle.var_types.specs.declared.reply.SetReply.{SetReply}
 use Rattle.var_types.specs.declared.reply.SetReply.TheVariants as set
-use Rattle.varsvc.specs.Fitting.{IsOfKind}
+use Rattle.var_types.specs.Step.{IsOfKind}
 use Rattle.varsvc.specs.Values.{HasValues, HasValuesOfGet, HasValuesOfNext, HasValuesOfFault, HasValuesOfReason, HasValuesOfSet}
 use Rattle.varsvc.specs.Replies.{reply_text}
 use Rattle.report_text.specs.Word.{word_text}

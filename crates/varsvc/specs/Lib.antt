@@ -3,6 +3,7 @@ pub mod FaultLines
 pub mod Replies
 pub mod Report
 pub mod Input
+pub mod Values
 pub mod Fitting
 pub mod Runs
 pub mod Images

@@ -6,13 +6,13 @@ use Rattle.var_types.specs.Session.{AreStepped, calls_of}
 use Rattle.var_types.specs.State.{start}
 use Rattle.varsvc.specs.declared.plan.Plan.{Plan}
 use Rattle.varsvc.specs.declared.plan.Plan.TheVariants.{Print, InputFault, DeviceFault, NoMemory}
-use Rattle.varsvc.specs.Fitting.{HasValuesOfAnswered}
 use Rattle.varsvc.specs.Plan.{PlansLine, report_status}
 use Rattle.varsvc.specs.Runs.{report_of}
+use Rattle.varsvc.specs.Values.{AnswerHasValues}
 
 -- the plan prints the report of a session, of which all parts are values of their types
 pub record PlansReport (answered : List Answered) (plan : Plan) : Type 0 where
-  pub values : All HasValuesOfAnswered answered
+  pub values : All AnswerHasValues answered
   pub report : PlansLine (report_status answered) (report_of answered) plan
 
 -- the plan prints the report of the session of these calls

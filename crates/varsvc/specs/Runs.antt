@@ -4,7 +4,7 @@ use Rattle.std.specs.List.{list_any}
 use Rattle.script_text.specs.declared.script_fault.ScriptFault.{ScriptFault}
 use Rattle.script_text.specs.Script.{script_of}
 use Rattle.var_types.specs.declared.answered.Answered.{Answered}
-use Rattle.var_types.specs.Session.{AreStepped, calls_of, changes_from}
+use Rattle.var_types.specs.Session.{AreStepped, calls_of, history_of}
 use Rattle.var_types.specs.State.{start}
 use Rattle.var_types.specs.Step.{lacks_memory}
 use Rattle.varsvc.specs.FaultLines.{script_line}
@@ -25,7 +25,7 @@ lacks_any answered = list_any (λ a. lacks_memory a.call a.reply) answered
 
 -- the report of a session of one processor, which makes the history
 abbrev pub report_of : List Answered → List ℕ
-report_of answered = session_text (changes_from 0 0 answered) (answered ∷ [])
+report_of answered = session_text (history_of answered) (answered ∷ [])
 
 -- this is the report of the session of the input that is told, of which some reply is out of memory, or none
 abbrev pub Reports : Option (List ℕ) → Bool → List ℕ → Type 0

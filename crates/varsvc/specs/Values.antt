@@ -3,8 +3,8 @@ use Rattle.std.specs.Prelude.{ℕ, ◌^◌, ◌<◌}
 use Rattle.var_types.specs.declared.answered.Answered.{Answered}
 use Rattle.var_types.specs.declared.name.NameFault.{NameFault}
 use Rattle.var_types.specs.declared.name.NameFault.TheVariants as fault
-use Rattle.var_types.specs.declared.reason.SetReason.{SetReason}
-use Rattle.var_types.specs.declared.reason.SetReason.TheVariants as reason
+use Rattle.var_types.specs.declared.set_reason.SetReason.{SetReason}
+use Rattle.var_types.specs.declared.set_reason.SetReason.TheVariants as reason
 use Rattle.var_types.specs.declared.reply.GetReply.{GetReply}
 use Rattle.var_types.specs.declared.reply.GetReply.TheVariants as get
 use Rattle.var_types.specs.declared.reply.NextReply.{NextReply}

@@ -1,7 +1,7 @@
 ghost use Rattle.std.specs.Prelude.{◌≡◌, [], ◌∷◌, decimal};
 ghost use Rattle.report_text.specs.Line.{line_text};
 ghost use Rattle.report_text.specs.Word.{word_text};
-ghost use Rattle.varsvc.specs.FaultLines.{usage_line, script_line, input_line, memory_line, device_line, image_line, reason_word};
+ghost use Rattle.varsvc.specs.FaultLines.{usage_line, script_line, memory_line, device_line, image_line, reason_word};
 
 use crate::usage::UsageFault;
 use flash_dev::ImageFault;
@@ -15,14 +15,6 @@ pub fn write_memory_line<P: Put>(out: &mut P)
     ensures { P.Puts out.old out.new memory_line }
 {
     write_line(&[Part::Word(Word::No), Part::Word(Word::Memory)], out)
-}
-
-/// Puts the line for a failed read of the input.
-#[tactic(auto, unfolding(crate::specs::FaultLines::input_line))]
-pub fn write_input_line<P: Put>(out: &mut P)
-    ensures { P.Puts out.old out.new input_line }
-{
-    write_line(&[Part::Word(Word::Input), Part::Word(Word::Fault)], out)
 }
 
 /// Puts the line for a failed call of the flash.

@@ -61,7 +61,8 @@ pub fn text_of(plan: &Plan) -> &[u8]
 
 /// Plans the line for refused words.
 pub fn plan_usage(alloc: Global, fault: UsageFault) -> Plan
-    ensures { IsText (usage_row fault) (status_of result) (text_of result) }
+    ensures text { IsText (usage_row fault) (status_of result) (text_of result) }
+    ensures memory { fault ≡ UsageFault.OutOfMemory → result ≡ Plan.NoMemory }
 {
     if fault == UsageFault::OutOfMemory {
         return Plan::NoMemory;

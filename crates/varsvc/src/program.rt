@@ -29,6 +29,8 @@ pub fn run_on_files<R: Files, S: Source, K: Sink>(
     script: &mut S,
     out: &mut K,
 ) -> u8
+where
+    R::File: Send,
 {
     match read_words(alloc, words) {
         Ok(order) => run_order(rt, alloc, words, &order, script, out),
@@ -45,6 +47,8 @@ fn run_order<R: Files, S: Source, K: Sink>(
     script: &mut S,
     out: &mut K,
 ) -> u8
+where
+    R::File: Send,
 {
     let path = order.image().text();
     if let Order::Format { .. } = order {

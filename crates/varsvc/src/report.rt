@@ -1,10 +1,11 @@
-ghost use Rattle.std.specs.Prelude.{◌≡◌, [], ◌∷◌, length, All};
+ghost use Rattle.std.specs.Prelude.{◌≡◌, ◌^◌, ◌<◌, [], ◌∷◌, length, decimal, All};
+ghost use Rattle.report_text.specs.Word.{word_text};
 ghost use Rattle.var_types.specs.Session.{history_of, entry_of};
+ghost use Rattle.var_types.specs.Texts.{spaced};
 ghost use Rattle.varsvc.specs.Report.{change_lines, history_lines, route_word, answer_line, processor_lines, session_text, indexed};
 ghost use Rattle.varsvc.specs.Values.{AnswerHasValues};
 
 use crate::replies::write_reply;
-use crate::session::is_change;
 use report_text::{Part, Word, write_line, write_parts};
 use var_types::{Answered, Put, Route};
 
@@ -13,7 +14,7 @@ fn count_changes(answered: &[Answered]) -> usize
 {
     let mut count = 0;
     for a in answered {
-        if is_change(&a.reply) {
+        if a.reply.is_change() {
             count += 1;
         }
     }
@@ -24,7 +25,7 @@ fn count_changes(answered: &[Answered]) -> usize
 fn write_change<P: Put>(index: usize, a: &Answered, out: &mut P)
     ensures { P.Puts out.old out.new (change_lines index a.now) }
 {
-    if !is_change(&a.reply) {
+    if !a.reply.is_change() {
         return;
     }
     let place = Part::Number(a.place);
@@ -56,14 +57,21 @@ fn route_word(route: Route) -> Word
     }
 }
 
+// Puts the front of an answered call's line: its index, its place and its route.
+fn write_answer_front<P: Put>(index: usize, place: u64, route: Route, out: &mut P)
+    ensures text { P.Puts out.old out.new (spaced (decimal index ∷ decimal place ∷ word_text (route_word route) ∷ [])) }
+    ensures value { place < 2 ^ 64 }
+{
+    let index = Part::Number(index as u64);
+    let route = Part::Word(route_word(route));
+    write_parts(&[index, Part::Number(place), route], out);
+}
+
 fn write_answer<P: Put>(index: usize, a: &Answered, out: &mut P)
     ensures text { P.Puts out.old out.new (answer_line index a.now) }
     ensures values { AnswerHasValues a.now }
 {
-    let index = Part::Number(index as u64);
-    let place = Part::Number(a.place);
-    let route = Part::Word(route_word(a.route));
-    write_parts(&[index, place, route], out);
+    write_answer_front(index, a.place, a.route, out);
     out.put(b" ");
     write_reply(&a.reply, out);
     out.put(b"\n");

@@ -1,8 +1,8 @@
 //! The running of a script, and what is to be printed of it.
-ghost use Rattle.std.specs.Prelude.{◌≡◌, [], ◌∷◌, Some, IfSome};
+ghost use Rattle.std.specs.Prelude.{◌≡◌, ◌≢◌, [], ◌∷◌, Some, IfSome};
 ghost use Rattle.varsvc.specs.FaultLines.{script_line};
 ghost use Rattle.varsvc.specs.Outcome.{FailsAt, IsText, ReadsInput, run_row};
-ghost use Rattle.varsvc.specs.Plan.{PlansLine, status_of, text_of};
+ghost use Rattle.varsvc.specs.Plan.{PlansLine, report_status, status_of, text_of};
 ghost use Rattle.varsvc.specs.RunPlan.{PlansCalls, PlansReport, PlansRun};
 
 use crate::fault_lines::write_script_line;
@@ -23,13 +23,18 @@ fn plan_refused(alloc: Global, fault: ScriptFault) -> Plan
     plan_text(3, text)
 }
 
+fn report_status(answered: &[Answered]) -> u8
+    ensures { result ≡ report_status answered.now }
+{
+    if any_lacks_memory(answered) { 8 } else { 0 }
+}
+
 fn plan_report(alloc: Global, answered: &[Answered]) -> Plan
     ensures { PlansReport answered.now result }
 {
     let mut text = TextBuffer::new(alloc);
-    let status = if any_lacks_memory(answered) { 8 } else { 0 };
     write_session(answered, &mut text);
-    plan_text(status, text)
+    plan_text(report_status(answered), text)
 }
 
 // At least one change is allowed, so that the limit is none for an empty script.
@@ -62,7 +67,8 @@ fn plan_accepted(alloc: Global, script: Script) -> Plan
 }
 
 fn plan_script(alloc: Global, input: &[u8]) -> Plan
-    ensures { IsText (run_row (Some input.now)) (status_of result) (text_of result) }
+    ensures text { IsText (run_row (Some input.now)) (status_of result) (text_of result) }
+    ensures was_read { status_of result ≢ 6 }
 {
     match read_script(alloc, input) {
         Ok(script) => plan_accepted(alloc, script),

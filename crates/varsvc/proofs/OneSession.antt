@@ -41,10 +41,10 @@ same_answer index a b call h k e =
     (IsWord-decimal a.place) (IsWord-decimal b.place) one.1 in
     let three = cut is_word_byte 32 route way (reply_text a.reply) (reply_text b.reply) refl
     (IsWord-word_text (route_word a.route)) (IsWord-word_text (route_word b.route)) two.1 in
-    let same_place : a.place ≡ b.place = decimal_injective a.place b.place h.2 k.2 two.0 in
+    let same_place : a.place ≡ b.place = decimal_injective a.place b.place h.1.1 k.1.1 two.0 in
     let same_route : a.route ≡ b.route = same_routes a.route b.route three.0 in
     let kind : IsOfKind a.call b.reply = subst (λ c. IsOfKind c b.reply) (sym call) k.0 in
-    let same_reply : a.reply ≡ b.reply = same_replies a.call a.reply b.reply h.0 kind h.1 k.1 three.1 in
+    let same_reply : a.reply ≡ b.reply = same_replies a.call a.reply b.reply h.0 kind h.1.0 k.1.0 three.1 in
     same_parts a b call same_place same_route same_reply
 
 -- the ends of one list, as long as each other

@@ -5,4 +5,5 @@ pub mod Report
 pub mod Input
 pub mod Outcome
 pub mod Plan
+pub mod Values
 pub mod Fitting

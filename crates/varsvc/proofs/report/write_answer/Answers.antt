@@ -1,4 +1,4 @@
-use Rattle.std.proofs.Common.{◌≡◌, ℕ, List, [], ◌∷◌, ◌++◌, ap, ◌∙◌, subst, append_assoc, decimal}
+use Rattle.std.proofs.Common.{◌≡◌, ℕ, List, [], ◌∷◌, ◌++◌, subst, append_assoc, decimal}
 use Rattle.var_types.specs.Texts.{spaced}
 use Rattle.varsvc.specs.Replies.{reply_text}
 use Rattle.varsvc.specs.Report.{answer_line, route_word}
@@ -9,12 +9,11 @@ use Rattle.varsvc.proofs.report.write_answer.Goals as goal
 four_words : (i p r reply : List ℕ) → spaced (i ∷ p ∷ r ∷ []) ++ (32 ∷ (reply ++ 10 ∷ [])) ≡ spaced (i ∷ p ∷ r ∷ reply ∷ []) ++ 10 ∷ []
 four_words i p r reply = simp append_assoc
 
-pub returns : goal.returns
+pub returns-clause-text : goal.returns-clause-text
 unfolding answer_line
-returns g c =
+returns-clause-text g c =
     let a = c.args.a.now in
     let joined = g.met.P.Put.joined in
-    let line : List ℕ → List ℕ = λ route. spaced (decimal c.args.index ∷ decimal a.place ∷ route ∷ reply_text a.reply ∷ []) ++ 10 ∷ [] in
     subst (λ (t : List ℕ). g.P.Put.Puts c.args.out.now c.put-2.new.self t)
-    (four_words (decimal c.args.index) (decimal a.place) (word_text c.route_word.result) (reply_text a.reply) ∙ ap (λ w. line (word_text w)) c.route_word.ensures)
-    (joined _ _ _ _ _ c.write_parts.ensures (joined _ _ _ _ _ c.put.ensures (joined _ _ _ _ _ c.write_reply.ensures c.put-2.ensures)))
+    (four_words (decimal c.args.index) (decimal a.place) (word_text (route_word a.route)) (reply_text a.reply))
+    (joined _ _ _ _ _ c.write_answer_front.ensures.text (joined _ _ _ _ _ c.put.ensures (joined _ _ _ _ _ c.write_reply.ensures.text c.put-2.ensures)))

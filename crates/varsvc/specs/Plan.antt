@@ -30,21 +30,21 @@ text_of NoMemory = memory_line
 abbrev pub report_status : List Answered → ℕ
 report_status answered = if lacks_any answered then 8 else 0
 
--- the plan prints this line with this status, but for want of memory
+-- the plan prints this line with this status, unless it is out of memory
 abbrev pub PlansLine : ℕ → List ℕ → Plan → Type 0
 PlansLine status line (Print s text) = (s ≡ status) × (text ≡ line)
 PlansLine status line NoMemory = Unit {0}
 
--- the plan prints the report of a session, but for want of memory
+-- the plan prints the report of a session, unless it is out of memory
 abbrev pub PlansReport : List Answered → Plan → Type 0
 PlansReport answered plan = PlansLine (report_status answered) (session_text (history_of answered) (answered ∷ [])) plan
 
--- the plan prints the report of the session of these calls, but for want of memory
+-- the plan prints the report of the session of these calls, unless it is out of memory
 abbrev pub PlansCalls : List Call → Plan → Type 0
 PlansCalls calls plan =
     (answered : List Answered) × (calls_of answered ≡ calls) × AreStepped (start [] (max (length calls) 1)) answered × PlansReport answered plan
 
--- the same, where memory may also be wanting before there is a session
+-- the same, where it may also be out of memory before there is a session
 abbrev pub PlansRun : List Call → Plan → Type 0
 PlansRun calls NoMemory = Unit {0}
 PlansRun calls (Print s text) = PlansCalls calls (Print s text)
@@ -71,7 +71,7 @@ fault_status image.Device = 7
 abbrev pub PlansFault : ImageFault → Plan → Type 0
 PlansFault fault plan = PlansLine (fault_status fault) (image_line fault) plan
 
--- the plan for a script: it is refused, or run; but for want of memory
+-- the plan for a script: it is refused, or run, unless it is out of memory
 abbrev pub PlansScript : List ℕ → Plan → Type 0
 PlansScript input NoMemory = Unit {0}
 PlansScript input (Print s text) =

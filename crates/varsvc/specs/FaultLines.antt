@@ -12,7 +12,7 @@ use Rattle.report_text.specs.declared.word.Word.TheVariants as word
 use Rattle.report_text.specs.Line.{line_text}
 use Rattle.report_text.specs.Word.{word_text}
 
--- the line for want of memory
+-- the line that there is no memory
 unfoldable pub memory_line : List ℕ
 memory_line = line_text (word_text word.No ∷ word_text word.Memory ∷ [])
 

@@ -9,7 +9,8 @@ use Rattle.var_types.specs.declared.answered.Route.{Route}
 use Rattle.var_types.specs.declared.answered.Route.TheVariants.{Plain}
 use Rattle.var_types.specs.Session.{calls_of}
 use Rattle.report_text.specs.declared.word.Word.TheVariants as word
-use Rattle.varsvc.specs.Fitting.{IsOfKind, IsFitting, OneTextOneSession}
+use Rattle.var_types.specs.Step.{IsOfKind}
+use Rattle.varsvc.specs.Fitting.{IsFitting, OneTextOneSession}
 use Rattle.varsvc.specs.Replies.{reply_text}
 use Rattle.varsvc.specs.Report.{route_word}
 use Rattle.report_text.specs.Word.{word_text}

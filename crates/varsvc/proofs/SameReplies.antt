@@ -16,7 +16,8 @@ use Rattle.var_types.specs.declared.reply.Reply.{Reply}
 use Rattle.var_types.specs.declared.reply.Reply.TheVariants as reply
 use Rattle.var_types.specs.declared.reply.SetReply.{SetReply}
 use Rattle.var_types.specs.declared.reply.SetReply.TheVariants as set
-use Rattle.varsvc.specs.Fitting.{IsOfKind, HasValues, HasValuesOfGet, HasValuesOfNext, HasValuesOfFault, HasValuesOfReason, HasValuesOfSet}
+use Rattle.var_types.specs.Step.{IsOfKind}
+use Rattle.varsvc.specs.Fitting.{HasValues, HasValuesOfGet, HasValuesOfNext, HasValuesOfFault, HasValuesOfReason, HasValuesOfSet}
 use Rattle.varsvc.specs.Replies.{reply_text}
 use Rattle.report_text.specs.Word.{word_text}
 use Rattle.varsvc.proofs.ReplyWords.{get_words, next_words, fault_words, reason_words, set_words, reply_words, reply_text-words, HaveWords-reply}

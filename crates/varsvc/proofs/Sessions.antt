@@ -1,7 +1,7 @@
 use Rattle.std.proofs.Common.{◌≡◌, ℕ, ◌+◌, ◌<◌, true, false, List, [], ◌∷◌, ◌++◌, length, get_or, take, flat_map, refl, sym, ap, ◌∙◌, append_assoc, arith, if◌then◌else◌}
 use Rattle.std.proofs.lemmas.List.{append-nil, length-take-le, take_more}
 use Rattle.var_types.specs.declared.answered.Answered.{Answered}
-use Rattle.var_types.specs.Session.{entries_from, entry_of}
+use Rattle.var_types.specs.Session.{changes_from, entry_of}
 use Rattle.var_types.specs.Step.{is_change}
 use Rattle.varsvc.specs.Report.{indexed, entry_line, change_lines}
 
@@ -15,12 +15,12 @@ indexed-snoc text index (x ∷ xs) a =
     ∙ ap (λ n. (text index x ++ indexed text (index + 1) xs) ++ text n a) (omega arith)
 
 -- the changes' lines one after the other are the history's
-pub indexed-changes : (index : ℕ) (xs : List Answered) → indexed change_lines index xs ≡ flat_map entry_line (entries_from index xs)
+pub indexed-changes : (index : ℕ) (xs : List Answered) → indexed change_lines index xs ≡ flat_map entry_line (changes_from 0 index xs)
 indexed-changes index [] = refl
 indexed-changes index (x ∷ xs) =
-    elim (is_change x.reply) as (λ b. (if b then entry_line (entry_of index x) else []) ++ indexed change_lines (index + 1) xs
-    ≡ flat_map entry_line (if b then entry_of index x ∷ entries_from (index + 1) xs else entries_from (index + 1) xs)) [
-      | true ↦ ap (λ t. entry_line (entry_of index x) ++ t) (indexed-changes (index + 1) xs)
+    elim (is_change x.reply) as (λ b. (if b then entry_line (entry_of 0 index x) else []) ++ indexed change_lines (index + 1) xs
+    ≡ flat_map entry_line (if b then entry_of 0 index x ∷ changes_from 0 (index + 1) xs else changes_from 0 (index + 1) xs)) [
+      | true ↦ ap (λ t. entry_line (entry_of 0 index x) ++ t) (indexed-changes (index + 1) xs)
       | false ↦ indexed-changes (index + 1) xs
     ]
 

@@ -1,7 +1,5 @@
 use Rattle.std.specs.Prelude.{◌≡◌, ℕ, ◌^◌, ◌<◌, List, All}
 use Rattle.var_types.specs.declared.answered.Answered.{Answered}
-use Rattle.var_types.specs.declared.call.Call.{Call}
-use Rattle.var_types.specs.declared.call.Call.TheVariants as call
 use Rattle.var_types.specs.declared.name.NameFault.{NameFault}
 use Rattle.var_types.specs.declared.name.NameFault.TheVariants as fault
 use Rattle.var_types.specs.declared.set_reason.SetReason.{SetReason}
@@ -16,19 +14,8 @@ use Rattle.var_types.specs.declared.reply.SetReply.{SetReply}
 use Rattle.var_types.specs.declared.reply.SetReply.TheVariants as set
 use Rattle.var_types.specs.Guid.{IsGuid}
 use Rattle.var_types.specs.Session.{calls_of}
+use Rattle.var_types.specs.Step.{IsOfKind}
 use Rattle.varsvc.specs.Report.{session_text}
-
--- a reply is of its call's kind (UEFI 2.10, 8.2)
-abbrev pub IsOfKind : Call → Reply → Type 0
-IsOfKind (call.Get c) (reply.Get r) = Unit {0}
-IsOfKind (call.Next c) (reply.Next r) = Unit {0}
-IsOfKind (call.Set c) (reply.Set r) = Unit {0}
-IsOfKind (call.Get c) (reply.Next r) = ⊥
-IsOfKind (call.Get c) (reply.Set r) = ⊥
-IsOfKind (call.Next c) (reply.Get r) = ⊥
-IsOfKind (call.Next c) (reply.Set r) = ⊥
-IsOfKind (call.Set c) (reply.Get r) = ⊥
-IsOfKind (call.Set c) (reply.Next r) = ⊥
 
 -- values are bytes, units of a name, a GUID
 abbrev pub AreBytes : List ℕ → Type 0

@@ -30,7 +30,7 @@ pub record IsSessionOf (input : List ℕ) (answered : List Answered) : Type 0 wh
 
 -- whether memory was wanting for some reply of a session
 abbrev pub lacks_any : List Answered → Bool
-lacks_any answered = list_any (λ a. lacks_memory a.reply) answered
+lacks_any answered = list_any (λ a. lacks_memory a.call a.reply) answered
 
 -- the words are refused, and this line says why
 abbrev pub RefusesWords : Result Order UsageFault → List ℕ → Type 0

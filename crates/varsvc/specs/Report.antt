@@ -18,7 +18,7 @@ entry_line entry = line_text (decimal entry.number ∷ decimal entry.processor �
 
 -- the line of the change that an answered call makes, if it makes one
 abbrev pub change_lines : ℕ → Answered → List ℕ
-change_lines index a = if is_change a.reply then entry_line (entry_of index a) else []
+change_lines index a = if is_change a.reply then entry_line (entry_of 0 index a) else []
 
 -- the lines of a history: how many changes, and each of them (this project's own)
 unfoldable pub history_lines : List Entry → List ℕ

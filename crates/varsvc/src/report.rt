@@ -3,7 +3,6 @@ ghost use Rattle.var_types.specs.Session.{history_of, entry_of};
 ghost use Rattle.varsvc.specs.Report.{change_lines, history_lines, route_word, answer_line, processor_lines, session_text, indexed};
 
 use crate::replies::write_reply;
-use crate::session::is_change;
 use report_text::{Part, Word, write_line, write_parts};
 use var_types::{Answered, Bytes, OutOfMemory, Route};
 
@@ -12,7 +11,7 @@ fn count_changes(answered: &[Answered]) -> usize
 {
     let mut count = 0;
     for a in answered {
-        if is_change(&a.reply) {
+        if a.reply.is_change() {
             count += 1;
         }
     }
@@ -23,7 +22,7 @@ fn count_changes(answered: &[Answered]) -> usize
 fn write_change(index: usize, a: &Answered, out: &mut Bytes) -> Result<(), OutOfMemory>
     ensures { OnOk result (out.new ≡ out.old ++ change_lines index a.now) }
 {
-    if !is_change(&a.reply) {
+    if !a.reply.is_change() {
         return Ok(());
     }
     let place = Part::Number(a.place);

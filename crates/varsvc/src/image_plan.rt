@@ -7,6 +7,7 @@ ghost use Rattle.report_text.specs.Listing.{listing_text};
 ghost use Rattle.var_types.specs.Layout.{headers_size, image_size, volume_size};
 ghost use Rattle.var_types.specs.Record.{Authenticated};
 ghost use Rattle.var_types.specs.Region.{region_map};
+ghost use Rattle.varsvc.specs.FaultLines.{image_line};
 ghost use Rattle.varsvc.specs.Images.{AcceptsImage};
 ghost use Rattle.varsvc.specs.Outcome.{FailsAt, IsText, LeavesImage, format_row, list_row};
 ghost use Rattle.varsvc.specs.Plan.{PlansFault, PlansLine, status_of, text_of};
@@ -20,15 +21,21 @@ use std::alloc::Global;
 use var_region::Region;
 use var_types::{Bytes, TextBuffer};
 
-fn plan_fault(alloc: Global, fault: ImageFault) -> Plan
-    ensures { PlansFault fault result }
+fn plan_refused(alloc: Global, fault: ImageFault) -> Plan
+    ensures { PlansLine 4 (image_line fault) result }
 {
-    if fault == ImageFault::Device {
-        return Plan::DeviceFault;
-    }
     let mut text = TextBuffer::new(alloc);
     write_image_line(fault, &mut text);
     plan_text(4, text)
+}
+
+fn plan_fault(alloc: Global, fault: ImageFault) -> Plan
+    ensures { PlansFault fault result }
+{
+    match fault {
+        ImageFault::Device => Plan::DeviceFault,
+        _ => plan_refused(alloc, fault),
+    }
 }
 
 fn plan_listing(alloc: Global, volume: &[u8]) -> Plan

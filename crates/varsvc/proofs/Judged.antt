@@ -25,12 +25,12 @@ module _ (r : Row) (counts : Counts) (status : ℕ) (old new : Option (List ℕ)
       record {
         text = text;
         ended = ⊎_elim (λ e. inl (e, is.done e))
-        (⊎_elim (λ e. inr (inl (e, is.usage e)))
-        (⊎_elim (λ e. inr (inr (inl (e, is.script e))))
-        (⊎_elim (λ e. inr (inr (inr (inl (e, is.image e)))))
-        (⊎_elim (λ e. absurd (calm.source (is.input e).0 (planned.source.rose e)))
-        (⊎_elim (λ e. absurd (calm.flash (is.device e).0 (planned.flash.rose e)))
-        (λ e. inr (inr (inr (inr e))))))))) is.known;
+            (⊎_elim (λ e. inr (inl (e, is.usage e)))
+            (⊎_elim (λ e. inr (inr (inl (e, is.script e))))
+            (⊎_elim (λ e. inr (inr (inr (inl (e, is.image e)))))
+            (⊎_elim (λ e. absurd (calm.source (is.input e).0 (planned.source.rose e)))
+            (⊎_elim (λ e. absurd (calm.flash (is.device e).0 (planned.flash.rose e)))
+            (λ e. inr (inr (inr (inr e))))))))) is.known;
       }
 
   pub judged : IsJudged r status

@@ -49,12 +49,16 @@ fn words_of(rt: &(impl Env + AllocGlobal)) -> io::Result<Vec<String>> {
     }
 }
 
-fn main(rt: HostRuntime) -> ExitCode {
+fn run_process(rt: &HostRuntime) -> ExitCode {
     let mut script = StdSource::on(rt.stdin());
     let mut out = StdSink::on(rt.stdout());
-    let status = match words_of(&rt) {
-        Ok(words) => run_on_files(&rt, rt.alloc(), &words, &mut script, &mut out),
+    let status = match words_of(rt) {
+        Ok(words) => run_on_files(rt, rt.alloc(), &words, &mut script, &mut out),
         Err(_) => top::print_plan(&Plan::NoMemory, &mut out),
     };
     ExitCode::from(status)
+}
+
+fn main(rt: HostRuntime) -> ExitCode {
+    run_process(&rt)
 }

@@ -21,7 +21,9 @@ pub enum Plan {
 
 // These lines are constants, so that they are printed also where there is no memory.
 const INPUT_LINE: &[u8] = b"input fault\n";
+
 const DEVICE_LINE: &[u8] = b"device fault\n";
+
 const MEMORY_LINE: &[u8] = b"no memory\n";
 
 /// The plan to print what stands in a text with a status.

@@ -23,7 +23,10 @@ fn scratch_path(rt: &HostRuntime, name: &str) -> Result<String, Fail> {
 }
 
 // The program on an empty script: its status, and what it printed.
-fn run<R: Files>(rt: &R, alloc: Global, verb: &str, path: &str) -> Result<(u8, Vec<u8>), Fail> {
+fn run<R: Files>(rt: &R, alloc: Global, verb: &str, path: &str) -> Result<(u8, Vec<u8>), Fail>
+where
+    R::File: Send,
+{
     let mut words = Vec::new(alloc);
     words.push(String::from_str(alloc, verb)?)?;
     words.push(String::from_str(alloc, path)?)?;
@@ -64,7 +67,10 @@ fn a_file_that_is_there_is_not_made_again(rt: HostRuntime) -> Result<(), Fail> {
     for size in [0, 100, IMAGE + 1] {
         let bytes = vec![in rt.alloc(); 0x5Au8; size]?;
         fs::write(&rt, path.as_str(), bytes.as_slice())?;
-        assert!(rt; make_image_file(&rt, path.as_str()).is_err(), "{size} bytes");
+        assert!(rt;
+            make_image_file(&rt, path.as_str()).is_err(),
+            "{size} bytes"
+        );
         let done = run(&rt, rt.alloc(), "format", path.as_str())?;
         assert_eq!(rt; done.0, 4, "{size} bytes");
         assert!(rt; fs::read(&rt, path.as_str())? == bytes, "{size} bytes");
@@ -190,9 +196,9 @@ fn a_file_that_is_not_whole_is_taken_away(rt: HostRuntime) -> Result<(), Fail> {
 }
 
 #[test]
-fn main_ends_with_the_status(rt: HostRuntime) -> Result<(), Fail> {
+fn the_process_ends_with_the_status(rt: HostRuntime) -> Result<(), Fail> {
     // The words of the tests ask for nothing.
-    let code = crate::main(rt);
+    let code = crate::run_process(&rt);
     let text = format!(in rt.alloc(); "{code:?}")?;
     assert_eq!(rt; text.as_str(), "ExitCode(unix_exit_status(2))");
     Ok(())

@@ -87,8 +87,8 @@ fn refuses(rt: &HostRuntime, reason: LineReason, lines: &[&[u8]]) -> Result<bool
 }
 
 #[test]
-fn refuses_a_line(rt: HostRuntime) -> Result<(), Fail> {
-    let table: [(LineReason, &[&[u8]]); 9] = [
+fn refuses_a_line_by_its_front(rt: HostRuntime) -> Result<(), Fail> {
+    let table: [(LineReason, &[&[u8]]); 4] = [
         (
             LineReason::Text,
             &[
@@ -124,6 +124,16 @@ fn refuses_a_line(rt: HostRuntime) -> Result<(), Fail> {
                 b"0 set G A 6 01 good",
             ],
         ),
+    ];
+    for (reason, lines) in table {
+        assert!(rt; refuses(&rt, reason, lines)?, "{reason:?}");
+    }
+    Ok(())
+}
+
+#[test]
+fn refuses_a_line_by_its_words(rt: HostRuntime) -> Result<(), Fail> {
+    let table: [(LineReason, &[&[u8]]); 5] = [
         (
             LineReason::Words,
             &[

@@ -1,5 +1,5 @@
 -- A blank image keeps no variable: its volume is its headers, and erased behind them.
-use Rattle.std.proofs.Common.{◌≡◌, ℕ, ◌+◌, ◌-◌, ◌≤◌, List, [], ◌++◌, length, take, drop, replicate, sym, ap, ◌∙◌, subst, arith, lit≤, length-append}
+use Rattle.std.proofs.Common.{◌≡◌, ℕ, ◌+◌, ◌-◌, ◌≤◌, List, [], ◌++◌, length, take, replicate, sym, ap, ◌∙◌, subst, arith, lit≤, length-append}
 use Rattle.std.proofs.lemmas.List.{length-replicate, take-replicate}
 use Rattle.std.proofs.Math.Seq.{drop-append_seam, take-append-add}
 use Rattle.flash_dev.proofs.Blanks.{length-blank_headers}

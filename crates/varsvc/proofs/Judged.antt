@@ -1,13 +1,11 @@
 -- Where no call fails, what is accepted is done, and what is refused ends with its refusal.
-use Rattle.std.proofs.Common.{◌≡◌, ◌≢◌, ◌⊎◌, ℕ, Bool, false, List, Option, Some, None, Result, Ok, Err, IsOk, IsErr, IsTrue, inl, inr, ⊎_elim, subst, sym, true≢false}
+use Rattle.std.proofs.Common.{◌≡◌, ◌≢◌, ◌⊎◌, ℕ, Bool, false, List, Option, Some, None, Result, Ok, Err, IsOk, IsErr, inl, inr, ⊎_elim, subst, sym, true≢false}
 use Rattle.std.proofs.lemmas.Bool.{cases_eq}
 use Rattle.flash_dev.specs.Geometry.{image_geometry}
-use Rattle.script_text.specs.Script.{script_of}
-use Rattle.varsvc.specs.declared.order.Order.{Order}
 use Rattle.varsvc.specs.declared.order.Order.TheVariants as order
 use Rattle.varsvc.specs.declared.usage.UsageFault.{UsageFault}
-use Rattle.varsvc.specs.Images.{Formats, IsImage, IsNoImage, Lists, RefusesFormat, RefusesList}
-use Rattle.varsvc.specs.Outcome.{CallsAreJudged, Counts, IsCalm, IsPlanned, Prints, Row, format_row, list_row, row, run_row, usage_row}
+use Rattle.varsvc.specs.Images.{IsImage, IsNoImage, Lists, RefusesList}
+use Rattle.varsvc.specs.Outcome.{CallsAreJudged, Counts, IsCalm, Prints, Row, format_row, list_row, run_row, usage_row}
 use Rattle.varsvc.specs.Runs.{IsNoScript, IsScript, RefusesScript, Reports}
 
 -- a calm call ends with a text that is done or refused, or is out of memory

@@ -1,15 +1,8 @@
 -- What becomes of source and image where they are not touched, or only read.
-use Rattle.std.proofs.Common.{◌≡◌, ◌≢◌, ℕ, ◌≤◌, List, [], length, Option, Some, None, IsTrue, refl, arith}
-use Rattle.flash_dev.specs.declared.image_fault.ImageFault.{ImageFault}
-use Rattle.flash_dev.specs.declared.image_fault.ImageFault.TheVariants as image
-use Rattle.flash_dev.specs.Formatting.{IsFormatLeft}
-use Rattle.flash_dev.specs.Rules.{IsKept, Leaves}
+use Rattle.std.proofs.Common.{ℕ, List, [], Option, IsTrue, refl, arith}
 use Rattle.flash_dev.proofs.Calls.{leaves_same}
-use Rattle.varsvc.specs.declared.plan.Plan.{Plan}
-use Rattle.varsvc.specs.Outcome.{LeavesImage, ReadsInput, Row, format_row}
-use Rattle.varsvc.specs.Plan.{PlansFault, status_of}
+use Rattle.varsvc.specs.Outcome.{LeavesImage, ReadsInput, Row}
 use Rattle.varsvc.proofs.Inputs.{Consumes-nil}
-use Rattle.varsvc.proofs.Plans.{device_status, refused_status}
 
 -- nothing is read
 pub reads_nothing : (r : Row) (status : ℕ) (left : Option (List ℕ)) → (IsTrue r.reads → ⊥) → ReadsInput r status left left

@@ -1,5 +1,5 @@
 -- From the plan that is made to its status and its text.
-use Rattle.std.proofs.Common.{◌≡◌, ◌≢◌, ℕ, Bool, true, false, List, [], ◌++◌, IsTrue, refl, sym, ap, ◌∙◌, subst, arith}
+use Rattle.std.proofs.Common.{◌≡◌, ◌≢◌, ℕ, Bool, false, List, [], IsTrue, refl, sym, ap, ◌∙◌, subst, arith}
 use Rattle.flash_dev.specs.declared.image_fault.ImageFault.{ImageFault}
 use Rattle.flash_dev.specs.declared.image_fault.ImageFault.TheVariants as image
 use Rattle.outside.specs.Faults.{HasRisen}
@@ -44,7 +44,7 @@ line_text r status line InputFault is plans = absurd plans
 line_text r status line DeviceFault is plans = absurd plans
 line_text r status line NoMemory is plans = text_memory r
 
--- the plan of a line has another status than one that neither it nor want of memory has
+-- the plan of a line has another status than one that neither it nor a call out of memory has
 pub other_status : (fault status : ℕ) (line : List ℕ) (plan : Plan) → status ≢ fault → 8 ≢ fault → PlansLine status line plan → status_of plan ≢ fault
 other_status fault status line (Print s t) other memory (is_status, is_text) = λ e. other (sym is_status ∙ e)
 other_status fault status line InputFault other memory plans = absurd plans

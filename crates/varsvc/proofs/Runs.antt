@@ -7,7 +7,7 @@ use Rattle.script_text.specs.declared.script_fault.ScriptFault.{ScriptFault}
 use Rattle.script_text.specs.Script.{script_of, most_script_bytes}
 use Rattle.var_types.specs.declared.answered.Answered.{Answered}
 use Rattle.var_types.specs.declared.call.Call.{Call}
-use Rattle.var_types.specs.Session.{AreStepped, calls_of}
+use Rattle.var_types.specs.Session.{AreStepped}
 use Rattle.var_types.specs.State.{start}
 use Rattle.var_types.specs.Step.{IsOfKind}
 use Rattle.var_types.proofs.ReplyKinds.{IsOfKind-stepped}
@@ -18,7 +18,7 @@ use Rattle.varsvc.specs.Fitting.{IsFitting}
 use Rattle.varsvc.specs.Input.{IsInput, most_read}
 use Rattle.varsvc.specs.Outcome.{IsText, run_row}
 use Rattle.varsvc.specs.Plan.{PlansLine, report_status, status_of, text_of}
-use Rattle.varsvc.specs.RunPlan.{PlansCalls, PlansReport, PlansRun}
+use Rattle.varsvc.specs.RunPlan.{PlansCalls, PlansRun}
 use Rattle.varsvc.specs.Runs.{IsSessionOf, RefusesScript, Reports, lacks_any, report_of}
 use Rattle.varsvc.specs.Values.{AnswerHasValues}
 use Rattle.varsvc.proofs.PlannedTexts.{text_done, text_lacking, text_memory, text_script}

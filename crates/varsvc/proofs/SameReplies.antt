@@ -109,7 +109,7 @@ same_reason r s h k e = unfold word_text in
     let second : number_at 1 (reason_words r) ≡ number_at 1 (reason_words s) = ap (number_at 1) e in
     absurd (omega (arith, second))
 
--- a refusal's first word is neither that of success nor that of want of memory
+-- a refusal's first word is neither that of success nor that of a call out of memory
 refused : (r : SetReason) → (number_at 0 (reason_words r) ≡ number_at 0 (set_words set.Ok) → ⊥) × (number_at 0 (reason_words r) ≡ number_at 0 (set_words set.OutOfMemory) → ⊥)
 unfolding word_text
 refused (reason.Name x) = (omega arith, omega arith)

@@ -202,7 +202,7 @@ pub record IsCalm (r : Row) (counts : Counts) : Type 0 where
   pub sink : ¬ HasRisen counts.sink_before counts.sink_after
   pub flash : IsTrue r.opens → ¬ HasRisen counts.flash_before counts.flash_after
 
--- where no call fails, what is accepted is done, and what is refused ends with its refusal, but for want of memory (this project's own)
+-- where no call fails, what is accepted is done, and what is refused ends with its refusal, unless the call is out of memory (this project's own)
 abbrev pub CallsAreJudged : Type 0
 CallsAreJudged =
     (asked : Result Order UsageFault) (input image : Option (List ℕ)) (size : ℕ) (counts : Counts) (status : ℕ) (old new : Option (List ℕ))

@@ -1,11 +1,8 @@
-use Rattle.std.specs.Prelude.{◌≡◌, ℕ, Bool, false, List, [], if◌then◌else◌, max, length}
+use Rattle.std.specs.Prelude.{◌≡◌, ℕ, false, List, if◌then◌else◌}
 use Rattle.flash_dev.specs.declared.image_fault.ImageFault.{ImageFault}
 use Rattle.flash_dev.specs.declared.image_fault.ImageFault.TheVariants as image
 use Rattle.var_types.specs.declared.answered.Answered.{Answered}
-use Rattle.var_types.specs.declared.call.Call.{Call}
 use Rattle.var_types.specs.Put.{Text}
-use Rattle.var_types.specs.Session.{AreStepped, calls_of}
-use Rattle.var_types.specs.State.{start}
 use Rattle.varsvc.specs.declared.plan.Plan.{Plan}
 use Rattle.varsvc.specs.declared.plan.Plan.TheVariants.{Print, InputFault, DeviceFault, NoMemory}
 use Rattle.varsvc.specs.FaultLines.{device_line, image_line, input_line, memory_line}

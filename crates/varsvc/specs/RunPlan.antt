@@ -1,5 +1,5 @@
 -- The plan for a script that is run.
-use Rattle.std.specs.Prelude.{◌≡◌, ℕ, List, [], ◌∷◌, length, max, All}
+use Rattle.std.specs.Prelude.{◌≡◌, List, [], length, max, All}
 use Rattle.var_types.specs.declared.answered.Answered.{Answered}
 use Rattle.var_types.specs.declared.call.Call.{Call}
 use Rattle.var_types.specs.Session.{AreStepped, calls_of}

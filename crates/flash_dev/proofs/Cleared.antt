@@ -28,7 +28,7 @@ cleared_behind (old ∷ olds) [] = refl
 cleared_behind [] (new ∷ news) = refl
 cleared_behind (old ∷ olds) (new ∷ news) = cleared_behind olds news
 
--- bits are cleared by the bytes up to a place, and then by the one at it
+-- bits are cleared by the bytes up to an index, and then by the one at it
 pub cleared_more : (olds news : List ℕ) (i : ℕ) → i < length news → length news ≤ length olds
     → cleared olds (take (i + 1) news) ≡ set (cleared olds (take i news)) i (bit_and (get_or (cleared olds (take i news)) i 0) (get_or news i 0))
 cleared_more olds news i h fits =
@@ -48,7 +48,7 @@ length-even_bytes [] = refl
 length-even_bytes (byte ∷ []) = refl
 length-even_bytes (byte ∷ other ∷ rest) = ap (λ n. suc (suc n)) (length-even_bytes rest)
 
--- one byte more, at an even place
+-- one byte more, at an even index
 even_more : (bytes : List ℕ) (i : ℕ) → i < length bytes → i % 2 ≡ 0 → even_bytes (take (suc i) bytes) ≡ even_bytes (take i bytes) ++ get_or bytes i 0 ∷ []
 even_more [] i h even = absurd (omega arith)
 even_more (byte ∷ []) zero h even = refl
@@ -57,7 +57,7 @@ even_more (byte ∷ rest) (suc zero) h even = absurd (omega arith)
 even_more (byte ∷ []) (suc (suc i)) h even = absurd (omega arith)
 even_more (byte ∷ other ∷ rest) (suc (suc i)) h even = ap (λ left. byte ∷ 255 ∷ left) (even_more rest i (omega arith) (omega arith))
 
--- one byte more, at another place
+-- one byte more, at an odd index
 odd_more : (bytes : List ℕ) (i : ℕ) → i < length bytes → i % 2 ≡ 1 → even_bytes (take (suc i) bytes) ≡ even_bytes (take i bytes) ++ 255 ∷ []
 odd_more [] i h odd = absurd (omega arith)
 odd_more (byte ∷ rest) zero h odd = absurd (omega arith)
@@ -65,11 +65,11 @@ odd_more (byte ∷ []) (suc i) h odd = absurd (omega arith)
 odd_more (byte ∷ other ∷ rest) (suc zero) h odd = refl
 odd_more (byte ∷ other ∷ rest) (suc (suc i)) h odd = ap (λ left. byte ∷ 255 ∷ left) (odd_more rest i (omega arith) (omega arith))
 
--- there are as many of the bytes up to a place
+-- there are as many of the bytes up to an index
 length-evens : (news : List ℕ) (i : ℕ) → i < length news → length (even_bytes (take i news)) ≡ i
 length-evens news i h = length-even_bytes (take i news) ∙ length-take-le i news (omega arith)
 
--- bits at even places are cleared up to an even place, and then at it
+-- bits at even indices are cleared up to an even index, and then at it
 pub evens_more : (olds news : List ℕ) (i : ℕ) → i < length news → length news ≤ length olds → i % 2 ≡ 0
     → cleared olds (even_bytes (take (i + 1) news))
     ≡ set (cleared olds (even_bytes (take i news))) i (bit_and (get_or (cleared olds (even_bytes (take i news))) i 0) (get_or news i 0))
@@ -82,7 +82,7 @@ evens_more olds news i h fits even =
     ∙ cleared_one olds evens (get_or news i 0) within
     ∙ ap (λ n. set (cleared olds evens) n (bit_and (get_or (cleared olds evens) n 0) (get_or news i 0))) size
 
--- at an odd place nothing is cleared
+-- at an odd index nothing is cleared
 pub odds_more : (olds news : List ℕ) (i : ℕ) → i < length news → length news ≤ length olds → i % 2 ≡ 1 → get_or olds i 0 < 256
     → cleared olds (even_bytes (take (i + 1) news)) ≡ cleared olds (even_bytes (take i news))
 odds_more olds news i h fits odd byte =

@@ -2,6 +2,7 @@
 use Rattle.std.proofs.Common.{◌≡◌, ℕ, ◌+◌, ◌*◌, ◌-◌, ◌≤◌, List, ◌++◌, length, take, drop, replicate, refl, sym, ap, ◌∙◌, arith, length-append, length-drop}
 use Rattle.std.proofs.lemmas.List.{append_assoc, drop-drop, drop_at, length-replicate, length-take-le, take_at}
 use Rattle.flash_dev.specs.Rules.{IsEraseLeft, block_filled, filled}
+use Rattle.var_types.specs.Layout.{block_size}
 use borrow.Rule.Slice.PartMut.{put_mid}
 
 -- a part that was filled
@@ -16,12 +17,12 @@ part_filled at end count byte olds part e h is =
     ∙ sym (append_assoc (take at olds) (replicate count byte) (drop (at + count) olds))
 
 -- a block that was filled
-pub block_is_filled : (at block byte : ℕ) (olds part : List ℕ) → at ≡ 4096 * block → at + 4096 ≤ length olds
-    → part ≡ replicate (length (take (at + 4096 - at) (drop at olds))) byte
-    → put_mid at (at + 4096 - at) olds part ≡ block_filled block byte olds
+pub block_is_filled : (at block byte : ℕ) (olds part : List ℕ) → at ≡ block_size * block → at + block_size ≤ length olds
+    → part ≡ replicate (length (take (at + block_size - at) (drop at olds))) byte
+    → put_mid at (at + block_size - at) olds part ≡ block_filled block byte olds
 unfolding block_filled
 block_is_filled at block byte olds part e h is =
-    part_filled at (at + 4096) 4096 byte olds part refl h is ∙ ap (λ n. filled n 4096 byte olds) e
+    part_filled at (at + block_size) block_size byte olds part refl h is ∙ ap (λ n. filled n block_size byte olds) e
 
 -- a part of an image that is filled leaves the rest
 module _ (at count byte : ℕ) (image : List ℕ) (h : at + count ≤ length image) where
@@ -49,10 +50,10 @@ module _ (at count byte : ℕ) (image : List ℕ) (h : at + count ≤ length ima
   filled-behind = drop_at (take at image ++ replicate count byte) (drop (at + count) image) (at + count) both
 
 -- a block that is filled is what an erase may leave
-pub block_left : (block byte : ℕ) (image : List ℕ) → 4096 * block + 4096 ≤ length image → IsEraseLeft block image (block_filled block byte image)
+pub block_left : (block byte : ℕ) (image : List ℕ) → block_size * block + block_size ≤ length image → IsEraseLeft block image (block_filled block byte image)
 unfolding block_filled
 block_left block byte image h = record {
-  len = filled-length (4096 * block) 4096 byte image h;
-  before = filled-before (4096 * block) 4096 byte image h;
-  behind = filled-behind (4096 * block) 4096 byte image h;
+  len = filled-length (block_size * block) block_size byte image h;
+  before = filled-before (block_size * block) block_size byte image h;
+  behind = filled-behind (block_size * block) block_size byte image h;
 }

@@ -6,7 +6,7 @@ use Rattle.std.proofs.lemmas.Bool.{and_parts, ltb-true}
 use Rattle.std.proofs.lemmas.List.{replicate-append-replicate}
 use Rattle.std.proofs.lemmas.Nat.{and_comm}
 use Rattle.flash_dev.specs.Blank.{blank_headers, blank_image}
-use Rattle.flash_dev.specs.Layout.{image_size}
+use Rattle.var_types.specs.Layout.{image_size}
 use Rattle.flash_dev.specs.Rules.{cleared, programmed}
 use Rattle.flash_dev.proofs.Blanks.{length-blank_headers}
 use Rattle.flash_dev.proofs.Cleared.{and_byte}

@@ -33,7 +33,7 @@ cleared_left olds [] = refl
 cleared_left [] (new ∷ news) = refl
 cleared_left (old ∷ olds) (new ∷ news) = (byte_cleared old new, cleared_left olds news)
 
--- bytes may be left with the bits at even places cleared
+-- bytes may be left with the bits at even indices cleared
 pub evens_left : (olds news : List ℕ) → ((k : ℕ) → get_or olds k 0 < 256) → AreBytesLeft olds news (cleared olds (even_bytes news))
 evens_left olds [] bytes = refl
 evens_left [] (new ∷ []) bytes = refl

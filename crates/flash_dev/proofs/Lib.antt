@@ -7,3 +7,6 @@ pub mod Erased
 pub mod Calls
 pub mod Blanks
 pub mod Fresh
+pub mod Moments
+pub mod Formats
+pub mod Recorded

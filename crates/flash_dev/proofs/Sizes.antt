@@ -2,7 +2,7 @@
 use Rattle.std.proofs.Common.{◌≡◌, ℕ, ◌/◌, ◌==◌, Bool, true, false, List, length, take, refl, sym, ◌∙◌, Option, Some, None, Result, Ok, Err, IfSome, codes, slice_index}
 use Rattle.std.specs.List.{list_all}
 use Rattle.std.proofs.lemmas.Bool.{eq-eqb, ne_eqb}
-use Rattle.flash_dev.specs.declared.guids.TheConstants.{AUTHENTICATED_VARIABLE_GUID, SYSTEM_NV_DATA_GUID}
+use Rattle.flash_dev.specs.Guids.{authenticated_variable_guid, system_nv_data_guid}
 use Rattle.flash_dev.specs.declared.image_fault.ImageFault.{ImageFault}
 use Rattle.flash_dev.specs.declared.image_fault.ImageFault.TheVariants.{BadSum, BlockSize, ImageSize, NotAStore, NotAVolume}
 use Rattle.flash_dev.specs.Geometry.{are, blocks_check, both_checks, bytes_at, header_sum, is_volume_length, number_at, checked_geometry, geometry_of, image_geometry, store_check, sum_check, tried, volume_check}
@@ -33,7 +33,7 @@ volume_is_none first =
     let last = tried_is_none (number_at 48 2 first == 72) (NotAVolume 48) (Ok tt) (λ have want e. cc) good_is_none in
     let third = tried_is_none (are (bytes_at 40 4 first) (codes "_FVH")) (NotAVolume 40) _ (λ have want e. cc) last in
     let second = tried_is_none (is_volume_length (number_at 32 8 first)) (NotAVolume 32) _ (λ have want e. cc) third in
-    tried_is_none (are (bytes_at 16 16 first) SYSTEM_NV_DATA_GUID) (NotAVolume 16) _ (λ have want e. cc) second
+    tried_is_none (are (bytes_at 16 16 first) system_nv_data_guid) (NotAVolume 16) _ (λ have want e. cc) second
 
 -- the checks of its blocks refuse none
 blocks_is_none : (first : List ℕ) → IsNoSize (blocks_check first)
@@ -55,7 +55,7 @@ store_is_none first =
     let last = tried_is_none (slice_index first 93 == 254) (NotAStore 93) (Ok tt) (λ have want e. cc) good_is_none in
     let third = tried_is_none (slice_index first 92 == 90) (NotAStore 92) _ (λ have want e. cc) last in
     let second = tried_is_none (number_at 88 4 first == 57272) (NotAStore 88) _ (λ have want e. cc) third in
-    tried_is_none (are (bytes_at 72 16 first) AUTHENTICATED_VARIABLE_GUID) (NotAStore 72) _ (λ have want e. cc) second
+    tried_is_none (are (bytes_at 72 16 first) authenticated_variable_guid) (NotAStore 72) _ (λ have want e. cc) second
 
 -- what a geometry refuses, a check refuses
 checked_refuses : (r : Result (Unit {0}) ImageFault) → IsNoSize r → (have want : ℕ) → checked_geometry r ≡ Err (ImageSize have want) → ⊥

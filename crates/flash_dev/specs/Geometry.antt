@@ -4,13 +4,13 @@ use Rattle.std.specs.Prelude.{ℕ, ◌+◌, ◌*◌, ◌/◌, ◌%◌, ◌==◌,
 use Rattle.std.specs.List.{list_all}
 use Rattle.byteorder.specs.Endian.{little_number}
 use Rattle.flash_dev.specs.declared.geometry.Geometry.{Geometry}
-use Rattle.flash_dev.specs.declared.guids.TheConstants.{AUTHENTICATED_VARIABLE_GUID, SYSTEM_NV_DATA_GUID}
 use Rattle.flash_dev.specs.declared.image_fault.ImageFault.{ImageFault}
 use Rattle.flash_dev.specs.declared.image_fault.ImageFault.TheVariants.{BadSum, BlockSize, ImageSize, NotAStore, NotAVolume}
-use Rattle.flash_dev.specs.Layout.{image_size}
+use Rattle.flash_dev.specs.Guids.{authenticated_variable_guid, system_nv_data_guid}
+use Rattle.var_types.specs.Layout.{block_size, headers_size, image_size, volume_header_size, volume_size}
 use lib.Pointwise.{pointwise}
 
--- the bytes of a field at a place, and the number that they are, low byte first
+-- the bytes of a field at an offset, and the number that they are, low byte first
 abbrev pub bytes_at : ℕ → ℕ → List ℕ → List ℕ
 bytes_at at size bytes = take size (drop at bytes)
 
@@ -25,9 +25,9 @@ are = pointwise ◌==◌
 abbrev pub tried : Bool → ImageFault → Result (Unit {0}) ImageFault → Result (Unit {0}) ImageFault
 tried holds fault rest = if holds then rest else Err fault
 
--- whether a volume may have so many bytes: whole blocks, at least the 14 of the variables, at most those of an image
+-- whether a volume may have so many bytes: whole blocks, at least those of the variables, at most those of an image
 abbrev pub is_volume_length : ℕ → Bool
-is_volume_length len = (len % 4096 == 0) && nat_le 57344 len && nat_le len 131072
+is_volume_length len = (len % block_size == 0) && nat_le volume_size len && nat_le len image_size
 
 -- the sum of 16-bit numbers, low byte first; a last odd byte is none
 abbrev pub sum_of_words : List ℕ → ℕ
@@ -37,21 +37,21 @@ sum_of_words (low ∷ high ∷ rest) = (low + 256 * high) + sum_of_words rest
 
 -- the sum of a volume header, which its checksum brings to 0
 abbrev pub header_sum : List ℕ → ℕ
-header_sum first = sum_of_words (take 72 first) % 65536
+header_sum first = sum_of_words (take volume_header_size first) % 65536
 
 -- the fields that say what the volume is, in order: its file system, its length, its signature, and the length of its header
 unfoldable pub volume_check : List ℕ → Result (Unit {0}) ImageFault
 volume_check first =
-    tried (are (bytes_at 16 16 first) SYSTEM_NV_DATA_GUID) (NotAVolume 16)
+    tried (are (bytes_at 16 16 first) system_nv_data_guid) (NotAVolume 16)
     (tried (is_volume_length (number_at 32 8 first)) (NotAVolume 32)
     (tried (are (bytes_at 40 4 first) (codes "_FVH")) (NotAVolume 40)
-    (tried (number_at 48 2 first == 72) (NotAVolume 48) (Ok tt))))
+    (tried (number_at 48 2 first == volume_header_size) (NotAVolume 48) (Ok tt))))
 
--- the map of its blocks: one run, of as many blocks of 4,096 bytes as it has, and the end of the map
+-- the map of its blocks: one run, of as many blocks as it has, and the end of the map
 unfoldable pub blocks_check : List ℕ → Result (Unit {0}) ImageFault
 blocks_check first =
-    tried (number_at 60 4 first == 4096) (BlockSize (number_at 60 4 first))
-    (tried (number_at 56 4 first == number_at 32 8 first / 4096) (NotAVolume 56)
+    tried (number_at 60 4 first == block_size) (BlockSize (number_at 60 4 first))
+    (tried (number_at 56 4 first == number_at 32 8 first / block_size) (NotAVolume 56)
     (tried (list_all (λ b. b == 0) (bytes_at 64 8 first)) (NotAVolume 64) (Ok tt)))
 
 -- the checksum
@@ -61,10 +61,10 @@ sum_check first = tried (header_sum first == 0) (BadSum (header_sum first)) (Ok 
 -- the store behind the volume's header, in order: of authenticated records, of all bytes that the volume has for it, formatted, and healthy
 unfoldable pub store_check : List ℕ → Result (Unit {0}) ImageFault
 store_check first =
-    tried (are (bytes_at 72 16 first) AUTHENTICATED_VARIABLE_GUID) (NotAStore 72)
-    (tried (number_at 88 4 first == 57272) (NotAStore 88)
-    (tried (slice_index first 92 == 90) (NotAStore 92)
-    (tried (slice_index first 93 == 254) (NotAStore 93) (Ok tt))))
+    tried (are (bytes_at 72 16 first) authenticated_variable_guid) (NotAStore 72)
+    (tried (number_at 88 4 first == 0xDFB8) (NotAStore 88)
+    (tried (slice_index first 92 == 0x5A) (NotAStore 92)
+    (tried (slice_index first 93 == 0xFE) (NotAStore 93) (Ok tt))))
 
 -- one check and then another
 abbrev pub both_checks : Result (Unit {0}) ImageFault → Result (Unit {0}) ImageFault → Result (Unit {0}) ImageFault
@@ -75,7 +75,7 @@ abbrev pub checked_geometry : Result (Unit {0}) ImageFault → Result Geometry I
 checked_geometry (Ok u) = Ok (record { plain = false })
 checked_geometry (Err fault) = Err fault
 
--- the geometry of an image with these first 100 bytes, or the first refusal
+-- the geometry of an image with these headers, or the first refusal
 unfoldable pub geometry_of : List ℕ → Result Geometry ImageFault
 geometry_of first =
     checked_geometry (both_checks (volume_check first) (both_checks (blocks_check first) (both_checks (sum_check first) (store_check first))))
@@ -83,4 +83,4 @@ geometry_of first =
 -- the geometry of an image, or the first refusal, that of its length before all others
 unfoldable pub image_geometry : List ℕ → Result Geometry ImageFault
 image_geometry image =
-    if length image == image_size then geometry_of (take 100 image) else Err (ImageSize (length image) image_size)
+    if length image == image_size then geometry_of (take headers_size image) else Err (ImageSize (length image) image_size)

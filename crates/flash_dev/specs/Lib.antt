@@ -1,8 +1,10 @@
 pub mod Rules
-pub mod Layout
 pub mod Moments
 pub mod MemFlash
 pub mod Told
+pub mod RecordingFlash
 pub mod FileFlash
+pub mod Guids
 pub mod Geometry
 pub mod Blank
+pub mod Formatting

@@ -1,5 +1,6 @@
 -- What the calls of a flash do to its image, and what they may leave where they fail or a power loss interrupts them.
 use Rattle.std.specs.Prelude.{◌≡◌, ℕ, ◌+◌, ◌*◌, List, [], ◌∷◌, ◌++◌, length, take, drop, replicate, bit_and, Option, Some, None, IfSome, IsSomeAnd}
+use Rattle.var_types.specs.Layout.{block_size}
 
 -- bytes after others were programmed into them from the first on: a bit that is clear in these is cleared, and each other bit stays as it is
 -- (NOR flash; PI 1.8 volume 3, 2.1)
@@ -8,7 +9,7 @@ cleared olds [] = olds
 cleared [] (new ∷ news) = []
 cleared (old ∷ olds) (new ∷ news) = bit_and old new ∷ cleared olds news
 
--- an image after bytes were programmed at a place
+-- an image after bytes were programmed at an offset
 abbrev pub programmed : ℕ → List ℕ → List ℕ → List ℕ
 programmed at bytes image = take at image ++ cleared (drop at image) bytes
 
@@ -24,24 +25,24 @@ AreBytesLeft [] (new ∷ news) lefts = lefts ≡ []
 AreBytesLeft (old ∷ olds) (new ∷ news) [] = ⊥
 AreBytesLeft (old ∷ olds) (new ∷ news) (left ∷ lefts) = IsByteLeft old new left × AreBytesLeft olds news lefts
 
--- an image that is left where bytes were programmed at a place, and the programming failed or was interrupted
+-- an image that is left where bytes were programmed at an offset, and the programming failed or was interrupted
 pub record IsProgramLeft (at : ℕ) (bytes image left : List ℕ) : Type 0 where
   pub before : take at left ≡ take at image
   pub range : AreBytesLeft (drop at image) bytes (drop at left)
 
--- an image in which so many bytes from a place on are replaced by one byte
+-- an image in which so many bytes from an offset on are replaced by one byte
 abbrev pub filled : ℕ → ℕ → ℕ → List ℕ → List ℕ
 filled at count byte image = take at image ++ replicate count byte ++ drop (at + count) image
 
--- an image in which a block of 4,096 bytes is filled with one byte; erased is 0xFF
+-- an image in which a block is filled with one byte; erased is 0xFF
 unfoldable pub block_filled : ℕ → ℕ → List ℕ → List ℕ
-block_filled block byte image = filled (4096 * block) 4096 byte image
+block_filled block byte image = filled (block_size * block) block_size byte image
 
 -- an image that is left where a block was erased, and the erasing failed or was interrupted: any bytes in the block, all else as it was
 pub record IsEraseLeft (block : ℕ) (image left : List ℕ) : Type 0 where
   pub len : length left ≡ length image
-  pub before : take (4096 * block) left ≡ take (4096 * block) image
-  pub behind : drop (4096 * block + 4096) left ≡ drop (4096 * block + 4096) image
+  pub before : take (block_size * block) left ≡ take (block_size * block) image
+  pub behind : drop (block_size * block + block_size) left ≡ drop (block_size * block + block_size) image
 
 -- an image that stays as it is
 abbrev pub IsKept : List ℕ → List ℕ → Type 0

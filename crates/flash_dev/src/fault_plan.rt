@@ -5,7 +5,7 @@ use std::marker::Model;
 pub enum Torn {
     /// Nothing.
     Before,
-    /// Programs the bytes at even places of its range, counted from the range's first byte, or leaves 0xA5 in its block.
+    /// Programs the bytes at even offsets of its range, counted from the range's first byte, or leaves 0xA5 in its block.
     Half,
     /// All of it.
     After,

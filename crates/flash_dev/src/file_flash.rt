@@ -1,11 +1,12 @@
-ghost use Rattle.std.specs.Prelude.{◌≡◌, ◌↔◌, ◌+◌, ◌*◌, ◌≤◌, None, false, length, IsErr, IsOk, OnOk, OnErr};
-ghost use Rattle.outside.specs.Faults.{HasRisen, one_more};
-ghost use Rattle.flash_dev.specs.Layout.{image_size};
+ghost use Rattle.std.specs.Prelude.{◌≡◌, ◌↔◌, ◌+◌, ◌*◌, ◌≤◌, None, false, true, length, IsErr, IsOk, OnOk, OnErr};
+ghost use Rattle.std.specs.Fs.{IsDir, file_type, metadata_len};
+ghost use Rattle.outside.specs.Faults.{HasCause, one_more};
+ghost use Rattle.var_types.specs.Layout.{block_size, image_size};
 
-use crate::cells::clear_bits;
+use crate::held_bytes::clear_bits;
 use crate::layout::{BLOCK_BYTES, IMAGE_BYTES};
 use crate::{Device, Flash};
-use std::fs::{OpenFile, OpenOptions};
+use std::fs::{Metadata, OpenFile, OpenOptions};
 use std::io;
 use std::io::{Read, Seek, SeekFrom, Write};
 use std::marker::Model;
@@ -22,7 +23,7 @@ pub struct FileFlash<T: Read + Write + Seek + OpenFile + Drop> {
 impl<T: Read + Write + Seek + OpenFile + Drop> Model for FileFlash<T> {
     ghost use Rattle.std.specs.Prelude.{◌≡◌, false, is_some};
     ghost use Rattle.flash_dev.specs.FileFlash.{FileState};
-    ghost use Rattle.flash_dev.specs.Layout.{image_size};
+    ghost use Rattle.var_types.specs.Layout.{image_size};
 
     ghost Value = { FileState };
 
@@ -43,18 +44,29 @@ impl<T: Read + Write + Seek + OpenFile + Drop> FileFlash<T> {
         }
     }
 
-    // A folder is no image, though it can be opened.
-    fn over(file: T) -> Self
+    // A flash over an open file.
+    pub(crate) fn over(file: T) -> Self
         ensures faults { result.faults ≡ 0 }
         ensures closed { result.opened ≡ false → result.size ≡ image_size }
     {
         match file.metadata() {
-            Ok(metadata) if !metadata.is_dir() => FileFlash {
-                file: Some(file),
-                size: metadata.len(),
-                faults: 0,
-            },
-            _ => Self::closed(),
+            Ok(metadata) => Self::of_metadata(file, &metadata),
+            Err(_) => Self::closed(),
+        }
+    }
+
+    // A folder is no image, though it can be opened.
+    fn of_metadata(file: T, metadata: &Metadata) -> Self
+        ensures file { ¬ IsDir (file_type metadata.now) → result ≡ record { opened = true; size = metadata_len metadata.now; faults = 0 } }
+        ensures folder { IsDir (file_type metadata.now) → result ≡ record { opened = false; size = image_size; faults = 0 } }
+    {
+        if metadata.is_dir() {
+            return Self::closed();
+        }
+        FileFlash {
+            file: Some(file),
+            size: metadata.len(),
+            faults: 0,
         }
     }
 
@@ -105,10 +117,10 @@ fn program_piece<T: Read + Write + Seek>(
 // Clears bits of a range, piece by piece, so that it takes no memory.
 fn program_range<T: Read + Write + Seek>(file: &mut T, at: u32, bytes: &[u8]) -> io::Result<()> {
     let mut buffer = [0; BLOCK_BYTES];
-    let mut place = u64::from(at);
+    let mut offset = u64::from(at);
     for part in bytes.chunks(BLOCK_BYTES) {
-        program_piece(file, place, part, &mut buffer[..part.len()])?;
-        place += part.len() as u64;
+        program_piece(file, offset, part, &mut buffer[..part.len()])?;
+        offset += part.len() as u64;
     }
     Ok(())
 }
@@ -161,9 +173,7 @@ impl<T: Read + Write + Seek + OpenFile + Drop> Flash for FileFlash<T> {
         ensures counted_one { OnErr result (self.new.faults ≡ one_more self.old.faults) }
 
         ensures size { self.new.size ≡ self.old.size }
-        ensures counted { OnOk result (self.new.faults ≡ self.old.faults) }
-        ensures failed { OnErr result (HasRisen self.old.faults self.new.faults) }
-        ensures never_falls { self.old.faults ≤ self.new.faults }
+        ensures cause { HasCause self.old.faults self.new.faults result }
     {
         let outcome = match &mut self.file {
             Some(file) => read_at(file, u64::from(at), into),
@@ -180,9 +190,7 @@ impl<T: Read + Write + Seek + OpenFile + Drop> Flash for FileFlash<T> {
         ensures counted_one { OnErr result (self.new.faults ≡ one_more self.old.faults) }
 
         ensures size { self.new.size ≡ self.old.size }
-        ensures counted { OnOk result (self.new.faults ≡ self.old.faults) }
-        ensures failed { OnErr result (HasRisen self.old.faults self.new.faults) }
-        ensures never_falls { self.old.faults ≤ self.new.faults }
+        ensures cause { HasCause self.old.faults self.new.faults result }
     {
         let outcome = match &mut self.file {
             Some(file) => program_range(file, at, bytes),
@@ -193,15 +201,13 @@ impl<T: Read + Write + Seek + OpenFile + Drop> Flash for FileFlash<T> {
 
     /// Writes 0xFF over the block.
     fn erase(&mut self, block: u32) -> Result<(), Device>
-        requires { 4096 * block + 4096 ≤ self.old.size }
+        requires { block_size * block + block_size ≤ self.old.size }
         ensures closed { self.old.opened ≡ false → IsErr result }
         ensures opened { self.new.opened ≡ self.old.opened }
         ensures counted_one { OnErr result (self.new.faults ≡ one_more self.old.faults) }
 
         ensures size { self.new.size ≡ self.old.size }
-        ensures counted { OnOk result (self.new.faults ≡ self.old.faults) }
-        ensures failed { OnErr result (HasRisen self.old.faults self.new.faults) }
-        ensures never_falls { self.old.faults ≤ self.new.faults }
+        ensures cause { HasCause self.old.faults self.new.faults result }
     {
         let outcome = match &mut self.file {
             Some(file) => erase_block(file, block),

@@ -1,7 +1,8 @@
-ghost use Rattle.std.specs.Prelude.{◌≡◌, ◌+◌, ◌*◌, ◌≤◌, ℕ, List, Option, Some, IfSome, length, take, drop, OnOk, OnErr};
-ghost use Rattle.outside.specs.Faults.{HasRisen};
-ghost use Rattle.flash_dev.specs.Moments.{Elapses};
-ghost use Rattle.flash_dev.specs.Rules.{IsEraseLeft, IsKept, IsProgramLeft, Leaves, MayLeave, block_filled, programmed};
+ghost use Rattle.std.specs.Prelude.{◌≡◌, ◌+◌, ◌*◌, ◌≤◌, ℕ, List, Option, Some, IfSome, length, take, drop, OnOk};
+ghost use Rattle.outside.specs.Faults.{HasCause};
+ghost use Rattle.flash_dev.specs.Moments.{Stays};
+ghost use Rattle.flash_dev.specs.Rules.{IsEraseLeft, IsKept, IsProgramLeft, Leaves, block_filled, programmed};
+ghost use Rattle.var_types.specs.Layout.{block_size};
 
 use crate::Device;
 
@@ -30,38 +31,30 @@ pub trait Flash: Drop {
     fn faults(&self) -> u64
         ensures { result ≡ fault_count self.now };
 
-    /// Reads the bytes from a place on, as many as the piece has. After `Err` the piece may hold anything.
+    /// Reads the bytes from an offset on, as many as the piece has. After `Err` the piece may hold anything.
     fn read(&mut self, at: u32, into: &mut [u8]) -> Result<(), Device>
         requires { at + length into.old ≤ size self.old }
         ensures bytes { OnOk result (IfSome (holds self.old) (λ image. into.new ≡ take (length into.old) (drop at image))) }
         ensures kept { holds self.new ≡ holds self.old }
         ensures size { size self.new ≡ size self.old }
-        ensures time { Elapses (moment self.old) (moment self.new) (left_since self.old) (left_since self.new) (MayLeave IsKept (holds self.old)) (holds self.new) }
-        ensures counted { OnOk result (fault_count self.new ≡ fault_count self.old) }
-        ensures failed { OnErr result (HasRisen (fault_count self.old) (fault_count self.new)) }
-        ensures never_falls { fault_count self.old ≤ fault_count self.new };
+        ensures at_any_moment { Stays IsKept moment left_since holds self.old self.new }
+        ensures cause { HasCause (fault_count self.old) (fault_count self.new) result };
 
-    /// Clears the bits of a range that are clear in the bytes; where it fails, any of them.
+    /// Clears the bits of the range from an offset on that are clear in the bytes; where it fails or power is lost, any of them.
     fn program(&mut self, at: u32, bytes: &[u8]) -> Result<(), Device>
         requires { at + length bytes.now ≤ size self.old }
         ensures programmed { OnOk result (Leaves (λ image left. left ≡ programmed at bytes.now image) (holds self.old) (holds self.new)) }
-        ensures torn { OnErr result (Leaves (IsProgramLeft at bytes.now) (holds self.old) (holds self.new)) }
         ensures size { size self.new ≡ size self.old }
-        ensures time { Elapses (moment self.old) (moment self.new) (left_since self.old) (left_since self.new) (MayLeave (IsProgramLeft at bytes.now) (holds self.old)) (holds self.new) }
-        ensures counted { OnOk result (fault_count self.new ≡ fault_count self.old) }
-        ensures failed { OnErr result (HasRisen (fault_count self.old) (fault_count self.new)) }
-        ensures never_falls { fault_count self.old ≤ fault_count self.new };
+        ensures at_any_moment { Stays (IsProgramLeft at bytes.now) moment left_since holds self.old self.new }
+        ensures cause { HasCause (fault_count self.old) (fault_count self.new) result };
 
-    /// Fills a block of 4,096 bytes with 0xFF; where it fails, the block may hold anything.
+    /// Fills a block of 4,096 bytes with 0xFF; where it fails or power is lost, the block may hold anything.
     fn erase(&mut self, block: u32) -> Result<(), Device>
-        requires { 4096 * block + 4096 ≤ size self.old }
-        ensures erased { OnOk result (Leaves (λ image left. left ≡ block_filled block 255 image) (holds self.old) (holds self.new)) }
-        ensures torn { OnErr result (Leaves (IsEraseLeft block) (holds self.old) (holds self.new)) }
+        requires { block_size * block + block_size ≤ size self.old }
+        ensures erased { OnOk result (Leaves (λ image left. left ≡ block_filled block 0xFF image) (holds self.old) (holds self.new)) }
         ensures size { size self.new ≡ size self.old }
-        ensures time { Elapses (moment self.old) (moment self.new) (left_since self.old) (left_since self.new) (MayLeave (IsEraseLeft block) (holds self.old)) (holds self.new) }
-        ensures counted { OnOk result (fault_count self.new ≡ fault_count self.old) }
-        ensures failed { OnErr result (HasRisen (fault_count self.old) (fault_count self.new)) }
-        ensures never_falls { fault_count self.old ≤ fault_count self.new };
+        ensures at_any_moment { Stays (IsEraseLeft block) moment left_since holds self.old self.new }
+        ensures cause { HasCause (fault_count self.old) (fault_count self.new) result };
 
     /// The bytes that are told are as many as it has.
     ghost sized: { (flash : Self) → IfSome (holds flash) (λ image. length image ≡ size flash) };

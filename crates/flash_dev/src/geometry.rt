@@ -1,15 +1,15 @@
 //! The headers at the front of an image: what they say, and the first field that is none of a variable volume and its store.
-ghost use Rattle.std.specs.Prelude.{◌≡◌, ◌≢◌, ◌==◌, ◌/◌, ◌%◌, ◌≤◌, ℕ, Err, IfSome, OnOk, length};
+ghost use Rattle.std.specs.Prelude.{◌≡◌, ◌≢◌, ◌==◌, ◌/◌, ◌%◌, ◌≤◌, ℕ, Err, IfOk, IfSome, OnOk, length, take};
 ghost use Rattle.std.specs.List.{list_all};
-ghost use Rattle.outside.specs.Faults.{HasRisen};
+ghost use Rattle.outside.specs.Faults.{HasCause, HasCauseAt};
 ghost use Rattle.flash_dev.specs.Geometry.{blocks_check, geometry_of, image_geometry, is_volume_length, number_at, store_check, sum_check, sum_of_words, volume_check};
-ghost use Rattle.flash_dev.specs.Layout.{image_size};
-ghost use Rattle.flash_dev.specs.Moments.{Elapses};
-ghost use Rattle.flash_dev.specs.Rules.{IsKept, MayLeave};
+ghost use Rattle.flash_dev.specs.Moments.{Stays};
+ghost use Rattle.flash_dev.specs.Rules.{IsKept};
+ghost use Rattle.var_types.specs.Layout.{block_size, headers_size, image_size};
 
 use crate::guids::{AUTHENTICATED_VARIABLE_GUID, SYSTEM_NV_DATA_GUID};
 use crate::layout::{BLOCK_BYTES, HEADERS_BYTES, IMAGE_BYTES, VOLUME_BYTES};
-use crate::{Flash, ImageFault};
+use crate::{Device, Flash, ImageFault};
 use byteorder::{ByteOrder, LittleEndian};
 
 /// What the headers of an image say of its records.
@@ -27,7 +27,7 @@ fn is_volume_length(len: u64) -> bool
 
 #[tactic(auto, unfolding(crate::specs::Geometry::volume_check))]
 fn check_volume(first: &[u8]) -> Result<(), ImageFault>
-    requires { length first.now ≡ 100 }
+    requires { length first.now ≡ headers_size }
     ensures check { result ≡ volume_check first.now }
     ensures device { result ≢ Err ImageFault.Device }
 {
@@ -48,7 +48,7 @@ fn check_volume(first: &[u8]) -> Result<(), ImageFault>
 
 // How many bytes a block has.
 fn block_size(first: &[u8]) -> u32
-    requires { length first.now ≡ 100 }
+    requires { length first.now ≡ headers_size }
     ensures { result ≡ number_at 60 4 first.now }
 {
     LittleEndian::read_u32(&first[60..])
@@ -56,8 +56,8 @@ fn block_size(first: &[u8]) -> u32
 
 // Whether the blocks are as many as the volume has.
 fn are_all_blocks(first: &[u8]) -> bool
-    requires { length first.now ≡ 100 }
-    ensures { result ≡ (number_at 56 4 first.now == number_at 32 8 first.now / 4096) }
+    requires { length first.now ≡ headers_size }
+    ensures { result ≡ (number_at 56 4 first.now == number_at 32 8 first.now / block_size) }
 {
     let blocks = u64::from(LittleEndian::read_u32(&first[56..]));
     blocks == LittleEndian::read_u64(&first[32..]) / BLOCK_BYTES as u64
@@ -71,7 +71,7 @@ fn are_zeros(bytes: &[u8]) -> bool
 
 #[tactic(auto, unfolding(crate::specs::Geometry::blocks_check))]
 fn check_blocks(first: &[u8]) -> Result<(), ImageFault>
-    requires { length first.now ≡ 100 }
+    requires { length first.now ≡ headers_size }
     ensures check { result ≡ blocks_check first.now }
     ensures device { result ≢ Err ImageFault.Device }
 {
@@ -103,7 +103,7 @@ fn sum_of_words(bytes: &[u8]) -> u16
 
 #[tactic(auto, unfolding(crate::specs::Geometry::sum_check))]
 fn check_sum(first: &[u8]) -> Result<(), ImageFault>
-    requires { length first.now ≡ 100 }
+    requires { length first.now ≡ headers_size }
     ensures check { result ≡ sum_check first.now }
     ensures device { result ≢ Err ImageFault.Device }
 {
@@ -116,7 +116,7 @@ fn check_sum(first: &[u8]) -> Result<(), ImageFault>
 
 #[tactic(auto, unfolding(crate::specs::Geometry::store_check))]
 fn check_store(first: &[u8]) -> Result<(), ImageFault>
-    requires { length first.now ≡ 100 }
+    requires { length first.now ≡ headers_size }
     ensures check { result ≡ store_check first.now }
     ensures device { result ≢ Err ImageFault.Device }
 {
@@ -138,7 +138,7 @@ fn check_store(first: &[u8]) -> Result<(), ImageFault>
 /// What the first 100 bytes of an image say of it, or the first field that refuses it.
 #[tactic(auto, unfolding(crate::specs::Geometry::geometry_of))]
 pub fn geometry_of(first: &[u8]) -> Result<Geometry, ImageFault>
-    requires { length first.now ≡ 100 }
+    requires { length first.now ≡ headers_size }
     ensures geometry { result ≡ geometry_of first.now }
     ensures device { result ≢ Err ImageFault.Device }
 {
@@ -147,6 +147,20 @@ pub fn geometry_of(first: &[u8]) -> Result<Geometry, ImageFault>
     check_sum(first)?;
     check_store(first)?;
     Ok(Geometry { plain: false })
+}
+
+// The headers of the image that a flash holds.
+fn read_headers<F: Flash>(flash: &mut F) -> Result<[u8; HEADERS_BYTES], Device>
+    requires { headers_size ≤ F.size flash.old }
+    ensures headers { IfOk result (λ first. IfSome (F.holds flash.old) (λ image. first ≡ take headers_size image)) }
+    ensures kept { F.holds flash.new ≡ F.holds flash.old }
+    ensures same_size { F.size flash.new ≡ F.size flash.old }
+    ensures at_any_moment { Stays IsKept F.moment F.left_since F.holds flash.old flash.new }
+    ensures cause { HasCause (F.fault_count flash.old) (F.fault_count flash.new) result }
+{
+    let mut first = [0; HEADERS_BYTES];
+    flash.read(0, &mut first)?;
+    Ok(first)
 }
 
 /// The geometry of the image that a flash holds, read from its front; nothing is written.
@@ -160,10 +174,8 @@ pub fn read_geometry<F: Flash>(flash: &mut F) -> Result<Geometry, ImageFault>
 
     ensures kept { F.holds flash.new ≡ F.holds flash.old }
     ensures same_size { F.size flash.new ≡ F.size flash.old }
-    ensures time { Elapses (F.moment flash.old) (F.moment flash.new) (F.left_since flash.old) (F.left_since flash.new) (MayLeave IsKept (F.holds flash.old)) (F.holds flash.new) }
-    ensures counted { result ≢ Err ImageFault.Device → F.fault_count flash.new ≡ F.fault_count flash.old }
-    ensures device { result ≡ Err ImageFault.Device → HasRisen (F.fault_count flash.old) (F.fault_count flash.new) }
-    ensures never_falls { F.fault_count flash.old ≤ F.fault_count flash.new }
+    ensures at_any_moment { Stays IsKept F.moment F.left_since F.holds flash.old flash.new }
+    ensures cause { HasCauseAt ImageFault.Device (F.fault_count flash.old) (F.fault_count flash.new) result }
 {
     let have = flash.len();
     if have != IMAGE_BYTES {
@@ -172,7 +184,6 @@ pub fn read_geometry<F: Flash>(flash: &mut F) -> Result<Geometry, ImageFault>
             want: IMAGE_BYTES,
         });
     }
-    let mut first = [0; HEADERS_BYTES];
-    flash.read(0, &mut first)?;
+    let first = read_headers(flash)?;
     geometry_of(&first)
 }

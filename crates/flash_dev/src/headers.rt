@@ -1,6 +1,7 @@
 //! The headers of an image without variables, field by field.
 ghost use Rattle.std.specs.Prelude.{◌≡◌, ◌+◌, ◌≤◌, ◌++◌, length, take};
 ghost use Rattle.flash_dev.specs.Blank.{blank_headers, blocks_of_volume, kind_of_volume, store_header};
+ghost use Rattle.var_types.specs.Layout.{headers_size, volume_header_size};
 
 use crate::guids::{AUTHENTICATED_VARIABLE_GUID, SYSTEM_NV_DATA_GUID};
 use crate::layout::{BLOCK_BYTES, BLOCKS, HEADERS_BYTES, IMAGE_BYTES};
@@ -17,8 +18,8 @@ const CHECKSUM: u16 = 0xF919;
 /// How many bytes the store has, its header counted.
 const STORE_BYTES: u32 = 0xDFB8;
 
-// Writes bytes at a place, behind those that are written already.
-fn place(into: &mut [u8], at: usize, bytes: &[u8])
+// Writes bytes at an offset, behind those that are written already.
+fn write_at(into: &mut [u8], at: usize, bytes: &[u8])
     requires { at + length bytes.now ≤ length into.old }
     ensures { take (at + length bytes.now) into.new ≡ take at into.old ++ bytes.now }
 {
@@ -26,35 +27,35 @@ fn place(into: &mut [u8], at: usize, bytes: &[u8])
 }
 
 fn write_kind(into: &mut [u8])
-    requires { length into.old ≡ 100 }
+    requires { length into.old ≡ headers_size }
     ensures { take 48 into.new ≡ kind_of_volume }
 {
-    place(into, 0, &[0; 16]);
-    place(into, 16, &SYSTEM_NV_DATA_GUID);
-    place(into, 32, &IMAGE_BYTES.to_le_bytes());
-    place(into, 40, b"_FVH");
-    place(into, 44, &VOLUME_ATTRIBUTES.to_le_bytes());
+    write_at(into, 0, &[0; 16]);
+    write_at(into, 16, &SYSTEM_NV_DATA_GUID);
+    write_at(into, 32, &IMAGE_BYTES.to_le_bytes());
+    write_at(into, 40, b"_FVH");
+    write_at(into, 44, &VOLUME_ATTRIBUTES.to_le_bytes());
 }
 
 fn write_blocks(into: &mut [u8])
-    requires { length into.old ≡ 100 }
-    ensures { take 72 into.new ≡ take 48 into.old ++ blocks_of_volume }
+    requires { length into.old ≡ headers_size }
+    ensures { take volume_header_size into.new ≡ take 48 into.old ++ blocks_of_volume }
 {
-    place(into, 48, &VOLUME_HEADER_BYTES.to_le_bytes());
-    place(into, 50, &CHECKSUM.to_le_bytes());
-    place(into, 52, &[0, 0, 0, 2]);
-    place(into, 56, &BLOCKS.to_le_bytes());
-    place(into, 60, &(BLOCK_BYTES as u32).to_le_bytes());
-    place(into, 64, &[0; 8]);
+    write_at(into, 48, &VOLUME_HEADER_BYTES.to_le_bytes());
+    write_at(into, 50, &CHECKSUM.to_le_bytes());
+    write_at(into, 52, &[0, 0, 0, 2]);
+    write_at(into, 56, &BLOCKS.to_le_bytes());
+    write_at(into, 60, &(BLOCK_BYTES as u32).to_le_bytes());
+    write_at(into, 64, &[0; 8]);
 }
 
 fn write_store(into: &mut [u8])
-    requires { length into.old ≡ 100 }
-    ensures { into.new ≡ take 72 into.old ++ store_header }
+    requires { length into.old ≡ headers_size }
+    ensures { into.new ≡ take volume_header_size into.old ++ store_header }
 {
-    place(into, 72, &AUTHENTICATED_VARIABLE_GUID);
-    place(into, 88, &STORE_BYTES.to_le_bytes());
-    place(into, 92, &[0x5A, 0xFE, 0, 0, 0, 0, 0, 0]);
+    write_at(into, 72, &AUTHENTICATED_VARIABLE_GUID);
+    write_at(into, 88, &STORE_BYTES.to_le_bytes());
+    write_at(into, 92, &[0x5A, 0xFE, 0, 0, 0, 0, 0, 0]);
 }
 
 /// The headers of volume and store.

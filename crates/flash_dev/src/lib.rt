@@ -1,20 +1,22 @@
-//! The flash under the services: as contracts see it, in memory, and over a file; the headers of its volume, and the blank image.
+//! The flash under the services: as contracts see it, in memory, with a record of its images, and over a file; the headers of its volume, and the blank image.
 #![tactic(auto)]
 
 mod blank;
-mod cells;
 mod device;
 mod fate;
+mod fated_bytes;
 mod fault_plan;
 mod file_flash;
 mod flash;
 mod geometry;
 mod guids;
 mod headers;
+mod held_bytes;
 mod image_fault;
 mod laws;
 mod layout;
 mod mem_flash;
+mod recording_flash;
 #[cfg(test)]
 mod tests;
 
@@ -28,3 +30,4 @@ pub use image_fault::ImageFault;
 pub use laws::blank_images_are_accepted;
 pub use layout::{BLOCK_BYTES, BLOCKS, HEADERS_BYTES, IMAGE_BYTES, VOLUME_BYTES};
 pub use mem_flash::MemFlash;
+pub use recording_flash::RecordingFlash;

@@ -1,13 +1,13 @@
-ghost use Rattle.std.specs.Prelude.{◌≡◌, ◌↔◌, ◌+◌, ◌*◌, ◌≤◌, ℕ, List, Some, IfSome, IsOk, length, take, drop, refl, OnOk, OnErr};
-ghost use Rattle.outside.specs.Faults.{HasRisen, one_more};
+ghost use Rattle.std.specs.Prelude.{◌≡◌, ◌↔◌, ◌+◌, ◌*◌, ◌≤◌, Some, IfSome, IsOk, length, take, drop, refl, OnOk, OnErr};
+ghost use Rattle.outside.specs.Faults.{HasCause, one_more};
 ghost use Rattle.flash_dev.specs.declared.fate.Fate.TheVariants.{Done};
-ghost use Rattle.flash_dev.specs.MemFlash.{fate_of, fated_erase, fated_program, next_call};
-ghost use Rattle.flash_dev.specs.Moments.{Elapses};
-ghost use Rattle.flash_dev.specs.Rules.{IsEraseLeft, IsKept, IsProgramLeft, Leaves, MayLeave, block_filled, programmed};
+ghost use Rattle.flash_dev.specs.MemFlash.{StaysInMemory, fate_of, fated_erase, fated_program, next_call};
+ghost use Rattle.flash_dev.specs.Rules.{IsEraseLeft, IsKept, IsProgramLeft, Leaves, block_filled, programmed};
 ghost use Rattle.flash_dev.specs.Told.{bytes_told};
+ghost use Rattle.var_types.specs.Layout.{block_size};
 
-use crate::cells::{erase_by, program_by};
 use crate::fate::{Fate, fate_of};
+use crate::fated_bytes::{erase_by, program_by};
 use crate::fault_plan::FaultPlan;
 use crate::{Device, Flash};
 use std::marker::Model;
@@ -22,9 +22,9 @@ pub struct MemFlash {
 }
 
 impl Model for MemFlash {
-    ghost use Rattle.flash_dev.specs.MemFlash.{Cells};
+    ghost use Rattle.flash_dev.specs.MemFlash.{MemoryState};
 
-    ghost Value = { Cells };
+    ghost Value = { MemoryState };
 
     ghost view = { λ m. record { bytes = m.bytes.items; plan = m.plan; calls = m.calls; faults = m.faults } };
 }
@@ -78,18 +78,18 @@ impl MemFlash {
         fate
     }
 
-    fn program_cells(&mut self, fate: Fate, at: u32, bytes: &[u8])
+    fn program_held(&mut self, fate: Fate, at: u32, bytes: &[u8])
         requires { at + length bytes.now ≤ length self.old.bytes }
-        ensures cells { self.new ≡ record self.old { bytes = fated_program fate at bytes.now self.old.bytes } }
+        ensures changed { self.new ≡ record self.old { bytes = fated_program fate at bytes.now self.old.bytes } }
         ensures left { IsProgramLeft at bytes.now self.old.bytes self.new.bytes }
         ensures size { length self.new.bytes ≡ length self.old.bytes }
     {
         program_by(fate, &mut self.bytes, at, bytes);
     }
 
-    fn erase_cells(&mut self, fate: Fate, block: u32)
-        requires { 4096 * block + 4096 ≤ length self.old.bytes }
-        ensures cells { self.new ≡ record self.old { bytes = fated_erase fate block self.old.bytes } }
+    fn erase_held(&mut self, fate: Fate, block: u32)
+        requires { block_size * block + block_size ≤ length self.old.bytes }
+        ensures changed { self.new ≡ record self.old { bytes = fated_erase fate block self.old.bytes } }
         ensures left { IsEraseLeft block self.old.bytes self.new.bytes }
     {
         erase_by(fate, &mut self.bytes, block);
@@ -127,10 +127,8 @@ impl Flash for MemFlash {
         ensures bytes { OnOk result (IfSome (Some self.old.bytes) (λ image. into.new ≡ take (length into.old) (drop at image))) }
         ensures kept { Some self.new.bytes ≡ Some self.old.bytes }
         ensures size { length self.new.bytes ≡ length self.old.bytes }
-        ensures time { Elapses 0 0 (λ _ left. left ≡ self.old.bytes) (λ _ left. left ≡ self.new.bytes) (MayLeave IsKept (Some self.old.bytes)) (Some self.new.bytes) }
-        ensures counted { OnOk result (self.new.faults ≡ self.old.faults) }
-        ensures failed { OnErr result (HasRisen self.old.faults self.new.faults) }
-        ensures never_falls { self.old.faults ≤ self.new.faults }
+        ensures at_any_moment { StaysInMemory IsKept self.old self.new }
+        ensures cause { HasCause self.old.faults self.new.faults result }
     {
         match self.begin() {
             Fate::Done => {
@@ -151,37 +149,31 @@ impl Flash for MemFlash {
         ensures faults { OnErr result (self.new.faults ≡ one_more self.old.faults) }
 
         ensures programmed { OnOk result (Leaves (λ image left. left ≡ programmed at bytes.now image) (Some self.old.bytes) (Some self.new.bytes)) }
-        ensures torn { OnErr result (Leaves (IsProgramLeft at bytes.now) (Some self.old.bytes) (Some self.new.bytes)) }
         ensures size { length self.new.bytes ≡ length self.old.bytes }
-        ensures time { Elapses 0 0 (λ _ left. left ≡ self.old.bytes) (λ _ left. left ≡ self.new.bytes) (MayLeave (IsProgramLeft at bytes.now) (Some self.old.bytes)) (Some self.new.bytes) }
-        ensures counted { OnOk result (self.new.faults ≡ self.old.faults) }
-        ensures failed { OnErr result (HasRisen self.old.faults self.new.faults) }
-        ensures never_falls { self.old.faults ≤ self.new.faults }
+        ensures at_any_moment { StaysInMemory (IsProgramLeft at bytes.now) self.old self.new }
+        ensures cause { HasCause self.old.faults self.new.faults result }
     {
         let fate = self.begin();
-        self.program_cells(fate, at, bytes);
+        self.program_held(fate, at, bytes);
         answer_of(fate)
     }
 
     /// Erases, or fails as planned, with what a torn call leaves.
     fn erase(&mut self, block: u32) -> Result<(), Device>
-        requires { 4096 * block + 4096 ≤ length self.old.bytes }
+        requires { block_size * block + block_size ≤ length self.old.bytes }
         ensures planned { IsOk result ↔ (fate_of self.old.plan self.old.calls ≡ Done) }
         ensures fated { self.new.bytes ≡ fated_erase (fate_of self.old.plan self.old.calls) block self.old.bytes }
         ensures plan { self.new.plan ≡ self.old.plan }
         ensures calls { self.new.calls ≡ next_call self.old.calls }
         ensures faults { OnErr result (self.new.faults ≡ one_more self.old.faults) }
 
-        ensures erased { OnOk result (Leaves (λ image left. left ≡ block_filled block 255 image) (Some self.old.bytes) (Some self.new.bytes)) }
-        ensures torn { OnErr result (Leaves (IsEraseLeft block) (Some self.old.bytes) (Some self.new.bytes)) }
+        ensures erased { OnOk result (Leaves (λ image left. left ≡ block_filled block 0xFF image) (Some self.old.bytes) (Some self.new.bytes)) }
         ensures size { length self.new.bytes ≡ length self.old.bytes }
-        ensures time { Elapses 0 0 (λ _ left. left ≡ self.old.bytes) (λ _ left. left ≡ self.new.bytes) (MayLeave (IsEraseLeft block) (Some self.old.bytes)) (Some self.new.bytes) }
-        ensures counted { OnOk result (self.new.faults ≡ self.old.faults) }
-        ensures failed { OnErr result (HasRisen self.old.faults self.new.faults) }
-        ensures never_falls { self.old.faults ≤ self.new.faults }
+        ensures at_any_moment { StaysInMemory (IsEraseLeft block) self.old self.new }
+        ensures cause { HasCause self.old.faults self.new.faults result }
     {
         let fate = self.begin();
-        self.erase_cells(fate, block);
+        self.erase_held(fate, block);
         answer_of(fate)
     }
 

@@ -1,11 +1,14 @@
 use crate::{
-    FaultPlan, FileFlash, Flash, Geometry, HEADERS_BYTES, ImageFault, MemFlash, Torn, format_image,
-    geometry_of, read_geometry,
+    FaultPlan, FileFlash, Flash, Geometry, HEADERS_BYTES, ImageFault, MemFlash, RecordingFlash,
+    Torn, format_image, geometry_of, read_geometry,
 };
 use std::alloc::{AllocError, Global};
+use std::fs::{File, Metadata, OpenFile, OpenOptions, Permissions};
+use std::io::{Read, Seek, SeekFrom, Write};
+use std::os::unix::fs::PermissionsExt;
 use std::process::Abort;
 use std::test::Fail;
-use std::{fs, process};
+use std::{fs, io, process};
 
 // The headers of an image without variables, byte by byte.
 const HEADERS: [u8; HEADERS_BYTES] = [
@@ -107,21 +110,6 @@ fn listed_calls_fail_and_later_ones_succeed(rt: HostRuntime) -> Result<(), Fail>
 }
 
 #[test]
-fn a_read_that_fails_leaves_the_piece(rt: HostRuntime) -> Result<(), Fail> {
-    let alloc = rt.alloc();
-    let mut flash = failing(alloc, vec![in alloc; 1, 2, 3, 4]?, &[0])?;
-    let mut piece = [7; 2];
-    let answers: [(bool, [u8; 2], u32); 2] = [(false, [7, 7], 1), (true, [2, 3], 2)];
-    for (is_done, held, calls) in answers {
-        assert_eq!(rt; reads(&rt, &mut flash, 1, &mut piece), is_done);
-        assert_eq!(rt; piece.as_slice(), held.as_slice());
-        assert_eq!(rt; flash.calls(), calls);
-        assert_eq!(rt; flash.faults(), 1);
-    }
-    Ok(())
-}
-
-#[test]
 fn a_program_is_torn_where_the_flash_stops(rt: HostRuntime) -> Result<(), Fail> {
     let alloc = rt.alloc();
     let cases: [(Torn, [u8; 5]); 3] = [
@@ -173,7 +161,7 @@ fn an_erase_is_torn_where_the_flash_stops(rt: HostRuntime) -> Result<(), Fail> {
     Ok(())
 }
 
-// One byte of the headers, another in its place, and what is then said of them.
+// The offset of one byte of the headers, another byte there, and what is then said of them.
 const BROKEN: [(usize, u8, Result<Geometry, ImageFault>); 35] = [
     (0, 0x00, EMPTY),
     (0, 0x01, Err(ImageFault::BadSum { sum: 1 })),
@@ -212,25 +200,17 @@ const BROKEN: [(usize, u8, Result<Geometry, ImageFault>); 35] = [
     (99, 0xff, EMPTY),
 ];
 
-// The headers with other bytes at places.
+// The headers with other bytes at offsets.
 fn headers_with(rt: &impl Abort, changes: &[(usize, u8)]) -> [u8; HEADERS_BYTES] {
     let mut first = HEADERS;
-    for (place, byte) in changes {
-        assert!(rt; *place < first.len());
-        first[*place] = *byte;
+    for (offset, byte) in changes {
+        assert!(rt; *offset < first.len());
+        first[*offset] = *byte;
     }
     first
 }
 
-#[test]
-fn each_field_of_the_headers_is_tried(rt: HostRuntime) {
-    for (place, byte, answer) in BROKEN {
-        let first = headers_with(&rt, &[(place, byte)]);
-        assert_eq!(rt; geometry_of(&first), answer, "{place}");
-    }
-}
-
-// Bytes of the headers at places, of which the first field in order decides, or which bring the sum to 0 for another length.
+// Bytes of the headers at offsets, of which the first field in order decides, or which bring the sum to 0 for another length.
 const CHANGED: [(&[(usize, u8)], Result<Geometry, ImageFault>); 8] = [
     (&[(32, 1), (16, 0)], Err(ImageFault::NotAVolume { at: 16 })),
     (&[(48, 0), (40, 0)], Err(ImageFault::NotAVolume { at: 40 })),
@@ -254,7 +234,11 @@ const CHANGED: [(&[(usize, u8)], Result<Geometry, ImageFault>); 8] = [
 ];
 
 #[test]
-fn the_first_field_in_order_decides(rt: HostRuntime) {
+fn each_field_of_the_headers_is_tried_in_order(rt: HostRuntime) {
+    for (offset, byte, answer) in BROKEN {
+        let first = headers_with(&rt, &[(offset, byte)]);
+        assert_eq!(rt; geometry_of(&first), answer, "{offset}");
+    }
     for (changes, answer) in CHANGED {
         let first = headers_with(&rt, changes);
         assert_eq!(rt; geometry_of(&first), answer, "{changes:?}");
@@ -306,6 +290,27 @@ fn a_formatting_that_stops_can_be_made_again(rt: HostRuntime) -> Result<(), Fail
         formats_again(&rt, rt.alloc(), stop_at, Torn::Before)?;
         formats_again(&rt, rt.alloc(), stop_at, Torn::Half)?;
         formats_again(&rt, rt.alloc(), stop_at, Torn::After)?;
+    }
+    Ok(())
+}
+
+#[test]
+fn a_formatting_erases_the_blocks_in_order_and_then_writes_the_headers(
+    rt: HostRuntime,
+) -> Result<(), Fail> {
+    let alloc = rt.alloc();
+    let mut flash = RecordingFlash::new(alloc, filled(alloc, 131072, 0x5A)?);
+    assert_eq!(rt; format_image(&mut flash), Ok(()));
+    assert!(rt; is_blank(flash.bytes()));
+    assert_eq!(rt; flash.past().len(), 33);
+    for block in 0..33 {
+        let erased = 4096 * block;
+        let runs = [(erased, 0xFF), (131072 - erased, 0x5A)];
+        let image = flash.past().get(block);
+        assert!(rt;
+            image.is_some_and(|image| are_runs(image.as_slice(), &runs)),
+            "{block}"
+        );
     }
     Ok(())
 }
@@ -384,6 +389,99 @@ fn a_long_range_of_a_file_is_programmed_piece_by_piece(rt: HostRuntime) -> Resul
         (3994, 0x3C),
     ];
     assert!(rt; holds_runs(&rt, path.as_str(), &runs)?);
+    fs::remove_file(&rt, path.as_str())?;
+    Ok(())
+}
+
+// A file of the system, of which a call writes at most so many bytes.
+#[derive(Drop)]
+struct SlowFile {
+    file: File,
+    most: usize,
+}
+
+impl Read for SlowFile {
+    fn read(&mut self, into: &mut [u8]) -> io::Result<usize> {
+        self.file.read(into)
+    }
+}
+
+impl Write for SlowFile {
+    fn write(&mut self, bytes: &[u8]) -> io::Result<usize> {
+        let count = bytes.len().min(self.most);
+        self.file.write(&bytes[..count])
+    }
+
+    fn flush(&mut self) -> io::Result<()> {
+        self.file.flush()
+    }
+}
+
+impl Seek for SlowFile {
+    fn seek(&mut self, to: SeekFrom) -> io::Result<u64> {
+        self.file.seek(to)
+    }
+}
+
+impl OpenFile for SlowFile {
+    fn metadata(&self) -> io::Result<Metadata> {
+        self.file.metadata()
+    }
+
+    fn set_len(&self, size: u64) -> io::Result<()> {
+        self.file.set_len(size)
+    }
+
+    fn sync_all(&self) -> io::Result<()> {
+        self.file.sync_all()
+    }
+
+    fn sync_data(&self) -> io::Result<()> {
+        self.file.sync_data()
+    }
+}
+
+#[test]
+fn a_short_write_is_not_taken_for_done(rt: HostRuntime) -> Result<(), Fail> {
+    let path = scratch_file(&rt, "slow", 8192)?;
+    // A file that takes nothing comes first, and keeps its bytes.
+    for (most, is_done, faults, held, erased) in [
+        (0, false, 2, 0x3C, 0x3C),
+        (1000, true, 0, 0x0C, 0xFF),
+    ] {
+        let file = OpenOptions::new()
+            .read(true)
+            .write(true)
+            .open(&rt, path.as_str())?;
+        let mut flash = FileFlash::over(SlowFile { file, most });
+        assert_eq!(rt; programs(&rt, &mut flash, 0, &[0x0F; 4096]), is_done);
+        assert_eq!(rt; erases(&rt, &mut flash, 1), is_done);
+        assert_eq!(rt; flash.faults(), faults);
+        assert!(rt; holds_runs(&rt, path.as_str(), &[(4096, held), (4096, erased)])?);
+    }
+    fs::remove_file(&rt, path.as_str())?;
+    Ok(())
+}
+
+#[test]
+fn a_file_that_may_only_be_read_is_read(rt: HostRuntime) -> Result<(), Fail> {
+    let path = scratch_file(&rt, "kept", 4096)?;
+    fs::set_permissions(&rt, path.as_str(), Permissions::from_mode(0o444))?;
+    // Root may write any file: for that user it is opened for reading alone.
+    let writable = OpenOptions::new().write(true).open(&rt, path.as_str());
+    let mut flash = match writable {
+        Ok(_) => FileFlash::over(fs::open(&rt, path.as_str())?),
+        Err(_) => FileFlash::on(&rt, path.as_str()),
+    };
+    let mut piece = [7; 4];
+    assert_eq!(rt; flash.len(), 4096);
+    assert!(rt; !programs(&rt, &mut flash, 0, &[0]));
+    assert!(rt; !erases(&rt, &mut flash, 0));
+    assert_eq!(rt; flash.faults(), 2);
+    assert!(rt; reads(&rt, &mut flash, 4092, &mut piece));
+    assert_eq!(rt; piece.as_slice(), [0x3C; 4].as_slice());
+    assert_eq!(rt; flash.faults(), 2);
+    assert!(rt; holds_runs(&rt, path.as_str(), &[(4096, 0x3C)])?);
     fs::remove_file(&rt, path.as_str())?;
     Ok(())
 }

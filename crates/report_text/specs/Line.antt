@@ -1,6 +1,7 @@
 use Rattle.std.specs.Prelude.{ℕ, List, [], ◌∷◌, ◌++◌, decimal, map, flat_map}
 use Rattle.var_types.specs.Guid.{guid_text}
-use Rattle.script_text.specs.Texts.{spaced, attributes_text, bytes_text, name_text, call_text}
+use Rattle.var_types.specs.Texts.{attributes_text, bytes_text, name_text, spaced}
+use Rattle.script_text.specs.Texts.{call_text}
 use Rattle.report_text.specs.declared.part.Part.{Part}
 use Rattle.report_text.specs.declared.part.Part.TheVariants as part
 use Rattle.report_text.specs.Stamp.{stamp_text}

@@ -1,5 +1,5 @@
 use Rattle.std.specs.Prelude.{ℕ, List, [], ◌∷◌, ◌++◌, length, decimal, flat_map}
-use Rattle.script_text.specs.Texts.{attributes_text, bytes_text, name_text}
+use Rattle.var_types.specs.Texts.{attributes_text, bytes_text, name_text}
 use Rattle.var_types.specs.declared.key.Key.{Key}
 use Rattle.var_types.specs.declared.variable.Variable.{Variable}
 use Rattle.var_types.specs.Guid.{guid_text}

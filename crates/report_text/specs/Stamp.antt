@@ -1,6 +1,6 @@
 use Rattle.std.specs.Prelude.{ℕ, ◌==◌, List, codes, if◌then◌else◌}
 use Rattle.std.specs.List.{list_all}
-use Rattle.script_text.specs.Texts.{bytes_text}
+use Rattle.var_types.specs.Texts.{bytes_text}
 use Rattle.var_types.specs.declared.stamp.Stamp.{Stamp}
 
 -- the stamp of a variable: `-` where it has none, which is all zero, else its bytes (UEFI 2.10, 8.2.2; the text is this project's own)

@@ -6,7 +6,6 @@ mod part;
 mod stamp;
 #[cfg(test)]
 mod tests;
-mod units;
 mod variables;
 mod word;
 

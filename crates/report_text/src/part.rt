@@ -1,11 +1,11 @@
-ghost use Rattle.std.specs.Prelude.{◌≡◌, ◌++◌, [], ◌∷◌, map, OnOk};
+ghost use Rattle.std.specs.Prelude.{map};
 ghost use Rattle.report_text.specs.Line.{part_text, later_parts_text, parts_text, line_text};
 
 use crate::Word;
 use crate::stamp::write_stamp;
-use script_text::text::{write_attributes, write_bytes, write_name, write_number};
 use script_text::write_call;
-use var_types::{Bytes, Call, Guid, OutOfMemory, Stamp};
+use var_types::text::{write_attributes, write_bytes, write_name, write_number};
+use var_types::{Call, Guid, Put, Stamp};
 
 /// A part of a line that is printed.
 #[derive(Clone, Copy, Debug)]
@@ -20,11 +20,11 @@ pub enum Part<'a> {
     Call(&'a Call),
 }
 
-fn write_part(part: &Part, out: &mut Bytes) -> Result<(), OutOfMemory>
-    ensures { OnOk result (out.new ≡ out.old ++ part_text part.now) }
+fn write_part<P: Put>(part: &Part, out: &mut P)
+    ensures { P.Puts out.old out.new (part_text part.now) }
 {
     match part {
-        Part::Word(word) => out.append(word.text().as_bytes()),
+        Part::Word(word) => out.put(word.text().as_bytes()),
         Part::Number(n) => write_number(*n, out),
         Part::Attributes(n) => write_attributes(*n, out),
         Part::Bytes(bytes) => write_bytes(bytes, out),
@@ -35,33 +35,29 @@ fn write_part(part: &Part, out: &mut Bytes) -> Result<(), OutOfMemory>
     }
 }
 
-fn write_later_parts(parts: &[Part], out: &mut Bytes) -> Result<(), OutOfMemory>
-    ensures { OnOk result (out.new ≡ out.old ++ later_parts_text parts.now) }
+fn write_later_parts<P: Put>(parts: &[Part], out: &mut P)
+    ensures { P.Puts out.old out.new (later_parts_text parts.now) }
 {
     for part in parts {
-        out.append(b" ")?;
-        write_part(part, out)?;
-    }
-    Ok(())
-}
-
-/// Appends parts with a space between each two; where memory is wanting, some of them may have been appended.
-pub fn write_parts(parts: &[Part], out: &mut Bytes) -> Result<(), OutOfMemory>
-    ensures { OnOk result (out.new ≡ out.old ++ parts_text parts.now) }
-{
-    match parts.split_first() {
-        Some((first, rest)) => {
-            write_part(first, out)?;
-            write_later_parts(rest, out)
-        }
-        None => Ok(()),
+        out.put(b" ");
+        write_part(part, out);
     }
 }
 
-/// Appends a line of parts with a space between each two; where memory is wanting, a front of it may have been appended.
-pub fn write_line(parts: &[Part], out: &mut Bytes) -> Result<(), OutOfMemory>
-    ensures { OnOk result (out.new ≡ out.old ++ line_text (map part_text parts.now)) }
+/// Puts parts with a space between each two.
+pub fn write_parts<P: Put>(parts: &[Part], out: &mut P)
+    ensures { P.Puts out.old out.new (parts_text parts.now) }
 {
-    write_parts(parts, out)?;
-    out.append(b"\n")
+    if let Some((first, rest)) = parts.split_first() {
+        write_part(first, out);
+        write_later_parts(rest, out);
+    }
+}
+
+/// Puts a line of parts with a space between each two.
+pub fn write_line<P: Put>(parts: &[Part], out: &mut P)
+    ensures { P.Puts out.old out.new (line_text (map part_text parts.now)) }
+{
+    write_parts(parts, out);
+    out.put(b"\n");
 }

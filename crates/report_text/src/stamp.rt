@@ -1,10 +1,9 @@
-ghost use Rattle.std.specs.Prelude.{◌≡◌, ◌==◌, ◌++◌, OnOk, OnErr};
+ghost use Rattle.std.specs.Prelude.{◌≡◌, ◌==◌};
 ghost use Rattle.std.specs.List.{list_all};
 ghost use Rattle.report_text.specs.Stamp.{stamp_text};
-ghost use Rattle.script_text.specs.Appended.{Extends};
 
-use script_text::text::write_bytes;
-use var_types::{Bytes, OutOfMemory, Stamp};
+use var_types::text::write_bytes;
+use var_types::{Put, Stamp};
 
 /// Whether a stamp is none, which is all zero.
 fn is_none(stamp: &Stamp) -> bool
@@ -13,14 +12,13 @@ fn is_none(stamp: &Stamp) -> bool
     stamp.bytes.iter().all(|byte| *byte == 0)
 }
 
-/// Appends a stamp's 32 lower-case hexadecimal digits, or `-` for none; after an `Err` a front of them may stand there.
+/// Puts a stamp's 32 lower-case hexadecimal digits, or `-` for none.
 #[tactic(auto, unfolding(crate::specs::Stamp::stamp_text))]
-pub(crate) fn write_stamp(stamp: &Stamp, out: &mut Bytes) -> Result<(), OutOfMemory>
-    ensures ok { OnOk result (out.new ≡ out.old ++ stamp_text stamp.now) }
-    ensures err { OnErr result (Extends out.old out.new) }
+pub(crate) fn write_stamp<P: Put>(stamp: &Stamp, out: &mut P)
+    ensures { P.Puts out.old out.new (stamp_text stamp.now) }
 {
     if is_none(stamp) {
-        return out.append(b"-");
+        return out.put(b"-");
     }
-    write_bytes(&stamp.bytes, out)
+    write_bytes(&stamp.bytes, out);
 }

@@ -16,8 +16,9 @@ use Rattle.var_types.proofs.Guids.{guid_of-guid_text, guid_text_between, length-
 use Rattle.script_text.specs.Lines.{is_text, words_of}
 use Rattle.script_text.specs.Numbers.{processor_of}
 use Rattle.script_text.specs.ReadBack.{IsReadable, IsReadableFind, IsReadableSet, line_of}
-use Rattle.script_text.specs.Script.{calls_from, script_of}
-use Rattle.script_text.specs.Texts.{attributes_text, bytes_text, call_text, call_words_of, name_text, spaced, verdict_words}
+use Rattle.script_text.specs.Script.{calls_from, most_script_bytes, script_of}
+use Rattle.var_types.specs.Texts.{attributes_text, bytes_text, name_text, spaced}
+use Rattle.script_text.specs.Texts.{call_text, call_words_of, verdict_words}
 use Rattle.script_text.specs.Words.{call_words, get_call, get_words, guid_read, guid_word, line_call, next_call, next_words, set_call, set_words, verb_of, verb_words, words_call}
 use Rattle.script_text.proofs.LineLemmas.{lines-ended_line, lines-one_line}
 use Rattle.script_text.proofs.NameTexts.{IsWord-name_text, name_of-name_text}
@@ -109,7 +110,7 @@ reads_set c parts =
     (ap (λ (verdict : Verdict). Ok (call.Set (record c { verdict = verdict }))) (sym parts.good))
 
 -- the words of a call's line are read as the call
-words_call-call : (call : Call) → IsReadable call → words_call (codes "0" ∷ call_words_of call) ≡ Ok (Some call)
+words_call-call : (call : Call) → IsReadable call → words_call (codes "0" ∷ call_words_of call) ≡ Ok (Some (0, call))
 unfolding words_call processor_of call_words verb_of verb_words get_words next_words set_words
 words_call-call (call.Get c) readable = rw (reads_get c.guid c.name c.room readable) refl
 words_call-call (call.Next c) readable = rw (reads_next c.guid c.name c.room readable) refl
@@ -138,33 +139,33 @@ words_of-line_of call readable =
     ap words_of (line_of-spaced call) ∙ words_of-spaced (codes "0" ∷ call_words_of call) (are_call_words call readable)
 
 -- the line of a call is read as the call
-line_call-line_of : (call : Call) → IsReadable call → line_call (line_of call) ≡ Ok (Some call)
+line_call-line_of : (call : Call) → IsReadable call → line_call (line_of call) ≡ Ok (Some (0, call))
 unfolding line_call
 line_call-line_of call readable =
     rw (is_text-line_of call readable) (ap words_call (words_of-line_of call readable) ∙ words_call-call call readable)
 
 -- one line with a call is the script of the call
-one_call : (call : Call) (line : List ℕ) → line_call line ≡ Ok (Some call) → calls_from 1 20000 (line ∷ []) ≡ Ok (call ∷ [])
+one_call : (call : Call) (line : List ℕ) → line_call line ≡ Ok (Some (0, call)) → calls_from 1 ([] ∷ []) (line ∷ []) ≡ Ok ((call ∷ []) ∷ [])
 unfolding calls_from
 one_call call line is_call = rw is_call refl
 
 -- a text of one line with a call is the script of the call
-script_of-line : (call : Call) (text line : List ℕ) → length text ≤ 1048576 → lines text ≡ line ∷ [] → line_call line ≡ Ok (Some call)
+script_of-line : (call : Call) (text line : List ℕ) → length text ≤ most_script_bytes → lines text ≡ line ∷ [] → line_call line ≡ Ok (Some (0, call))
     → script_of text ≡ Ok ((call ∷ []) ∷ [])
 unfolding script_of
 script_of-line call text line short one is_call =
-    let within : ltb 1048576 (length text) ≡ false = le-ltb _ _ short in
+    let within : ltb most_script_bytes (length text) ≡ false = le-ltb _ _ short in
     rw (within, one, one_call call line is_call) refl
 
 -- the line of a call reads back as the call
-pub script_of-line_of : (call : Call) → IsReadable call → length (line_of call) ≤ 1048576
+pub script_of-line_of : (call : Call) → IsReadable call → length (line_of call) ≤ most_script_bytes
     → script_of (line_of call) ≡ Ok ((call ∷ []) ∷ [])
 script_of-line_of call readable short =
     script_of-line call (line_of call) (line_of call) short
     (lines-one_line (line_of call) (omega arith) (is_text-line_of call readable)) (line_call-line_of call readable)
 
 -- so does the line with its line end
-pub script_of-ended : (call : Call) → IsReadable call → length (line_of call ++ 10 ∷ []) ≤ 1048576
+pub script_of-ended : (call : Call) → IsReadable call → length (line_of call ++ 10 ∷ []) ≤ most_script_bytes
     → script_of (line_of call ++ 10 ∷ []) ≡ Ok ((call ∷ []) ∷ [])
 script_of-ended call readable short =
     script_of-line call (line_of call ++ 10 ∷ []) (line_of call) short

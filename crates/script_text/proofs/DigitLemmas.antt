@@ -7,8 +7,8 @@ use Rattle.std.proofs.Math.Nat.{mul-le-mul_left}
 use Rattle.hex.specs.Hex.{hex_digit_value}
 use Rattle.script_text.specs.declared.numbers.Base.{Base}
 use Rattle.script_text.specs.declared.numbers.Base.TheVariants.{Decimal, Hexadecimal}
-use Rattle.script_text.specs.declared.reason.LineReason.{LineReason}
-use Rattle.script_text.specs.declared.reason.LineReason.TheVariants as reason
+use Rattle.script_text.specs.declared.line_reason.LineReason.{LineReason}
+use Rattle.script_text.specs.declared.line_reason.LineReason.TheVariants as reason
 use Rattle.script_text.specs.Digits.{base_number, digit_in, is_digit_in, digit_value_in, number_from}
 use Rattle.script_text.specs.Numbers.{number_in}
 

@@ -1,8 +1,7 @@
 pub mod DigitLemmas
 pub mod NameLemmas
 pub mod LineLemmas
-pub mod ScriptLemmas
-pub mod TextLemmas
+pub mod ScriptProcessors
 pub mod WordLemmas
 pub mod HexTexts
 pub mod NumberTexts

@@ -10,9 +10,8 @@ use Rattle.std.proofs.lemmas.List.Elements.{All-from_recursion, All-head, All-ta
 use Rattle.std.proofs.lemmas.List.Folds.{list_all-append}
 use Rattle.std.proofs.lemmas.Slice.Eq.{bytes_eq-Decides}
 use Rattle.hex.specs.Hex.{encode_with, hex_digit_value}
-use Rattle.script_text.specs.Names.{before_units, escaped_unit, is_plain, name_of, name_within, units_of}
-use Rattle.script_text.specs.Numbers.{is_dash}
-use Rattle.script_text.specs.Texts.{escaped_text, name_text, unit_text}
+use Rattle.var_types.specs.Texts.{escaped_text, is_dash, is_plain, name_text, unit_text}
+use Rattle.script_text.specs.Names.{before_units, escaped_unit, name_of, name_within, units_of}
 use Rattle.script_text.proofs.HexTexts.{digit_of, hex_digit_value-digit_of, is_word_byte-digit_of, list_all-encode_lower}
 use Rattle.script_text.proofs.NameLemmas.{units_of-cons}
 use Rattle.script_text.proofs.WordLemmas.{IsWord, is_word_byte}

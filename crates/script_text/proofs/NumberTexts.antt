@@ -11,8 +11,8 @@ use Rattle.std.proofs.lemmas.Nat.{from_be_bytes-to_be_bytes_4}
 use Rattle.std.proofs.lemmas.Str.Parse.{IsNumeralModel, numerals_by_fold}
 use Rattle.hex.specs.Hex.{encode_lower, encode_with, is_hex_digit}
 use Rattle.hex.proofs.HexLemmas.{decode_of-encode_lower}
-use Rattle.script_text.specs.Numbers.{bytes_of, decimal_value, has_hex_prefix, hex_read, hex_value, is_dash, is_decimal_digit, number_in, number_of, value_in}
-use Rattle.script_text.specs.Texts.{attributes_text, bytes_text}
+use Rattle.var_types.specs.Texts.{attributes_text, bytes_text, is_dash}
+use Rattle.script_text.specs.Numbers.{bytes_of, decimal_value, has_hex_prefix, hex_read, hex_value, is_decimal_digit, number_in, number_of, value_in}
 use Rattle.script_text.proofs.HexTexts.{IsBytes-from_All, byte_more, fold-encode_lower, is_hex_digit-digit_of, is_word_byte-digit_of, length-encode_lower, list_all-encode_lower}
 use Rattle.script_text.proofs.WordLemmas.{IsWord, is_word_byte, list_all-weaker}
 

@@ -9,7 +9,7 @@ use Rattle.std.proofs.lemmas.List.Folds.{list_all-append}
 use Rattle.std.proofs.lemmas.List.Splits.{slice_split_at, slice_split_none}
 use Rattle.std.proofs.lemmas.List.Sums.{AllPass-from_list_all}
 use Rattle.script_text.specs.Lines.{is_blank, is_text, is_text_byte, words_of}
-use Rattle.script_text.specs.Texts.{spaced}
+use Rattle.var_types.specs.Texts.{spaced}
 
 -- whether a character may stand in a word: from `!` to `~`
 abbrev pub is_word_byte : ℕ → Bool

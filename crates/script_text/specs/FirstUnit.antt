@@ -1,5 +1,6 @@
 use Rattle.std.specs.Prelude.{ℕ, ◌==◌, List, [], ◌∷◌, ◌++◌, if◌then◌else◌, Option, Some, None, option_map}
-use Rattle.script_text.specs.Names.{percent, plain_unit, escaped_unit, before_units, units_of}
+use Rattle.var_types.specs.Texts.{percent}
+use Rattle.script_text.specs.Names.{plain_unit, escaped_unit, before_units, units_of}
 
 -- the unit of the four hexadecimal digits behind a `%`, and the characters behind them
 abbrev pub escaped_front : List ℕ → Option (ℕ × List ℕ)

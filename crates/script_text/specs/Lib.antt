@@ -5,9 +5,7 @@ pub mod FirstUnit
 pub mod Lines
 pub mod Words
 pub mod Script
-pub mod CallsBefore
 pub mod Texts
-pub mod Appended
 pub mod Gives
 pub mod GivesLine
 pub mod ReadBack

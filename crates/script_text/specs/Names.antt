@@ -1,16 +1,10 @@
-use Rattle.std.specs.Prelude.{ℕ, ◌+◌, ◌*◌, ◌==◌, ◌&&◌, not, Bool, List, [], ◌∷◌, length, nat_le, if◌then◌else◌, Option, Some, None, Result, Ok, Err}
+use Rattle.std.specs.Prelude.{ℕ, ◌+◌, ◌*◌, ◌==◌, ◌&&◌, List, [], ◌∷◌, length, nat_le, if◌then◌else◌, Option, Some, None, Result, Ok, Err}
 use Rattle.hex.specs.Hex.{is_hex_digit}
-use Rattle.script_text.specs.declared.reason.LineReason.{LineReason}
-use Rattle.script_text.specs.declared.reason.LineReason.TheVariants as reason
-use Rattle.script_text.specs.Numbers.{hex_value, is_dash}
-
--- the code of `%`
-abbrev pub percent : ℕ
-percent = 37
-
--- whether a character of a name stands for itself: from `!` to `~`, but `%`
-abbrev pub is_plain : ℕ → Bool
-is_plain c = nat_le 33 c && nat_le c 126 && not (c == percent)
+use Rattle.var_types.specs.Layout.{most_units}
+use Rattle.var_types.specs.Texts.{is_dash, is_plain, percent}
+use Rattle.script_text.specs.declared.line_reason.LineReason.{LineReason}
+use Rattle.script_text.specs.declared.line_reason.LineReason.TheVariants as reason
+use Rattle.script_text.specs.Numbers.{hex_value}
 
 -- the unit of a character that stands for itself
 abbrev pub plain_unit : ℕ → Option ℕ
@@ -44,7 +38,7 @@ units_of (x ∷ a ∷ b ∷ c ∷ d ∷ rest) =
 -- at most 1,024 units make a name
 abbrev pub name_within : Option (List ℕ) → Result (List ℕ) LineReason
 name_within None = Err reason.Name
-name_within (Some units) = if nat_le (length units) 1024 then Ok units else Err reason.Name
+name_within (Some units) = if nat_le (length units) most_units then Ok units else Err reason.Name
 
 -- the name of a word: none for `-` (this project's own)
 unfoldable pub name_of : List ℕ → Result (List ℕ) LineReason

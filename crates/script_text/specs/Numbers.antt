@@ -1,8 +1,9 @@
 use Rattle.std.specs.Prelude.{ℕ, ◌+◌, ◌-◌, ◌*◌, ◌^◌, ◌==◌, ◌&&◌, not, Bool, List, [], ◌∷◌, length, take, drop, fold, codes, nat_lt, nat_le, if◌then◌else◌, Result, Ok, Err, unwrap_or}
 use Rattle.std.specs.List.{list_all}
 use Rattle.hex.specs.Hex.{is_hex_digit, hex_digit_value, decode_of}
-use Rattle.script_text.specs.declared.reason.LineReason.{LineReason}
-use Rattle.script_text.specs.declared.reason.LineReason.TheVariants as reason
+use Rattle.script_text.specs.declared.line_reason.LineReason.{LineReason}
+use Rattle.script_text.specs.declared.line_reason.LineReason.TheVariants as reason
+use Rattle.var_types.specs.Texts.{is_dash}
 use lib.Pointwise.{pointwise}
 
 -- whether a character is a decimal digit, and the value of one
@@ -41,10 +42,6 @@ number_of word =
 abbrev pub hex_read : {E : Type 0} → Result (List ℕ) E → Result (List ℕ) LineReason
 hex_read (Ok bytes) = Ok bytes
 hex_read (Err e) = Err reason.Hex
-
--- whether a word is `-` alone, which stands for nothing
-abbrev pub is_dash : List ℕ → Bool
-is_dash word = pointwise ◌==◌ word (codes "-")
 
 -- the bytes of a word: none for `-`, else an even number of hexadecimal digits (this project's own)
 unfoldable pub bytes_of : List ℕ → Result (List ℕ) LineReason

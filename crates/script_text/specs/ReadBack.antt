@@ -1,17 +1,19 @@
-use Rattle.std.specs.Prelude.{◌≡◌, ℕ, ◌^◌, ◌<◌, ◌≤◌, true, List, [], ◌∷◌, ◌++◌, length, codes, Ok, All}
+use Rattle.std.specs.Prelude.{◌≡◌, ℕ, ◌^◌, ◌<◌, ◌≤◌, true, List, [], ◌∷◌, ◌++◌, length, codes, Ok}
 use Rattle.var_types.specs.declared.call.Call.{Call}
 use Rattle.var_types.specs.declared.call.Call.TheVariants as call
 use Rattle.var_types.specs.declared.call.SetCall.{SetCall}
 use Rattle.var_types.specs.declared.guid.Guid.{Guid}
 use Rattle.var_types.specs.declared.verdict.Verdict.TheVariants.{Good}
 use Rattle.var_types.specs.Guid.{IsGuid}
-use Rattle.script_text.specs.Script.{script_of}
+use Rattle.var_types.specs.Layout.{most_units}
+use Rattle.var_types.specs.Values.{AreBytes, AreUnits}
+use Rattle.script_text.specs.Script.{most_script_bytes, script_of}
 use Rattle.script_text.specs.Texts.{call_text}
 use Rattle.script_text.specs.Words.{is_set_so_far}
 
--- the units of a call's name: at most 1,024, each of 16 bits
+-- the units of a call's name: no more than it may have, each of 16 bits
 abbrev pub IsCallName : List ℕ → Type 0
-IsCallName units = (length units ≤ 1024) × All (λ unit. unit < 2 ^ 16) units
+IsCallName units = (length units ≤ most_units) × AreUnits units
 
 -- the parts of a get or of a next are values of their types
 pub record IsReadableFind (guid : Guid) (name : List ℕ) (room : ℕ) : Type 0 where
@@ -24,7 +26,7 @@ pub record IsReadableSet (call : SetCall) : Type 0 where
   pub guid_fits : IsGuid call.guid
   pub name_fits : IsCallName call.name
   pub attributes_fit : call.attributes < 2 ^ 32
-  pub bytes_fit : All (λ b. b < 256) call.bytes
+  pub bytes_fit : AreBytes call.bytes
   pub good : call.verdict ≡ Good
   pub so_far : is_set_so_far call.attributes ≡ true
 
@@ -41,10 +43,10 @@ line_of call = codes "0 " ++ call_text call
 -- the line of a call reads back as the call (this project's own)
 abbrev pub CallsReadBack : Type 0
 CallsReadBack =
-    (call : Call) → IsReadable call → length (line_of call) ≤ 1048576 → script_of (line_of call) ≡ Ok ((call ∷ []) ∷ [])
+    (call : Call) → IsReadable call → length (line_of call) ≤ most_script_bytes → script_of (line_of call) ≡ Ok ((call ∷ []) ∷ [])
 
 -- so does the line with its line end (this project's own)
 abbrev pub EndedCallsReadBack : Type 0
 EndedCallsReadBack =
-    (call : Call) → IsReadable call → length (line_of call ++ 10 ∷ []) ≤ 1048576
+    (call : Call) → IsReadable call → length (line_of call ++ 10 ∷ []) ≤ most_script_bytes
     → script_of (line_of call ++ 10 ∷ []) ≡ Ok ((call ∷ []) ∷ [])

@@ -5,8 +5,8 @@ use Rattle.var_types.specs.declared.guid.Guid.{Guid}
 use Rattle.var_types.specs.declared.guid.NotAGuid.{NotAGuid}
 use Rattle.var_types.specs.declared.verdict.Verdict.TheVariants.{Good}
 use Rattle.var_types.specs.Guid.{guid_of}
-use Rattle.script_text.specs.declared.reason.LineReason.{LineReason}
-use Rattle.script_text.specs.declared.reason.LineReason.TheVariants as reason
+use Rattle.script_text.specs.declared.line_reason.LineReason.{LineReason}
+use Rattle.script_text.specs.declared.line_reason.LineReason.TheVariants as reason
 use Rattle.script_text.specs.declared.verb.Verb.{Verb}
 use Rattle.script_text.specs.declared.verb.Verb.TheVariants as verb
 use Rattle.script_text.specs.Lines.{words_of, is_text, is_comment}
@@ -16,7 +16,7 @@ use lib.Pointwise.{pointwise}
 
 -- the second step, where the first found no reason to refuse
 infixl 10 ◌>>=◌
-abbrev pub ◌>>=◌ : {A B : Type 0} → Result A LineReason → (A → Result B LineReason) → Result B LineReason
+abbrev pub ◌>>=◌ : {A B E : Type 0} → Result A E → (A → Result B E) → Result B E
 (Ok x) >>= f = f x
 (Err e) >>= f = Err e
 
@@ -111,16 +111,16 @@ unfoldable pub call_words : ℕ → List (List ℕ) → Result Call LineReason
 call_words processor [] = Err reason.Verb
 call_words processor (word ∷ rest) = verb_of word >>= λ v. verb_words processor v rest
 
--- the call of a line's words; a line without words has none
-unfoldable pub words_call : List (List ℕ) → Result (Option Call) LineReason
+-- the call of a line's words with its processor; a line without words has none
+unfoldable pub words_call : List (List ℕ) → Result (Option (ℕ × Call)) LineReason
 words_call [] = Ok None
 words_call (word ∷ rest) = do
   processor ← processor_of word
   call ← call_words processor rest
-  Ok (Some call)
+  Ok (Some (processor, call))
 
--- the call of a line, if it has one, or the first reason to refuse it (this project's own)
-unfoldable pub line_call : List ℕ → Result (Option Call) LineReason
+-- the call of a line with its processor, if it has one, or the first reason to refuse it (this project's own)
+unfoldable pub line_call : List ℕ → Result (Option (ℕ × Call)) LineReason
 line_call line =
     if is_comment line then Ok None
     else if not (is_text line) then Err reason.Text

@@ -1,23 +1,23 @@
 //! The text of a script: from its lines to calls, and from a call to its text.
 #![tactic(auto)]
 
-mod fault;
+mod call_text;
 mod laws;
 mod line_fault;
+mod line_reason;
 mod lines;
 mod names;
 mod numbers;
-mod reason;
 mod script;
-pub mod text;
+mod script_fault;
 mod verb;
 mod words;
 
-pub use fault::ScriptFault;
+pub use call_text::write_call;
 pub use laws::calls_read_back;
-pub use reason::LineReason;
+pub use line_reason::LineReason;
 pub use script::{Script, read_script};
-pub use text::write_call;
+pub use script_fault::ScriptFault;
 pub use verb::Verb;
 
 #[cfg(test)]

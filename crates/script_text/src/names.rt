@@ -2,15 +2,13 @@ ghost use Rattle.std.specs.Prelude.{◌≡◌, ◌<◌, ◌≤◌, length, optio
 ghost use Rattle.script_text.specs.FirstUnit.{escaped_front, first_unit, units_by};
 ghost use Rattle.script_text.specs.GivesLine.{GivesLine, IsLineRefusal};
 ghost use Rattle.script_text.specs.Names.{escaped_unit, units_of, name_within, name_of};
+ghost use Rattle.var_types.specs.Layout.{most_units};
 
 use crate::LineReason;
 use crate::line_fault::LineFault;
 use crate::numbers::{Base, digit};
 use std::alloc::Global;
-use var_types::Units;
-
-/// How many units the name of a call may have.
-const MOST_UNITS: usize = 1024;
+use var_types::{MOST_UNITS, Units};
 
 fn escaped_unit(a: u8, b: u8, c: u8, d: u8) -> Option<u16>
     ensures { result ≡ escaped_unit a b c d }
@@ -48,7 +46,7 @@ fn first_unit(word: &[u8]) -> Option<(u16, &[u8])>
 
 fn units_of(alloc: Global, word: &[u8]) -> Result<Vec<u16>, LineFault>
     ensures ok { IfOk result (λ units. name_within (units_of word.now) ≡ Ok units.items) }
-    ensures limit { IfOk result (λ units. length units.items ≤ 1024) }
+    ensures limit { IfOk result (λ units. length units.items ≤ most_units) }
     ensures err { IfErr result (λ e. IsLineRefusal e (name_within (units_of word.now))) }
 {
     let mut units = Vec::new(alloc);

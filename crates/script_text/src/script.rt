@@ -1,8 +1,8 @@
-ghost use Rattle.std.specs.Prelude.{◌≡◌, ◌<◌, ◌≤◌, [], ◌∷◌, ◌++◌, length, map, Ok, IfOk, IfErr, OnOk};
+ghost use Rattle.std.specs.Prelude.{◌≡◌, ◌≤◌, [], ◌∷◌, length, map, Ok, IfOk, IfErr, OnOk};
 ghost use Rattle.std.specs.Str.Lines.{lines};
-ghost use Rattle.script_text.specs.CallsBefore.{ReadsLine, RefusesLine, RefusesCall};
 ghost use Rattle.script_text.specs.Gives.{Gives, IsRefusal};
-ghost use Rattle.script_text.specs.Script.{calls_from, script_of};
+ghost use Rattle.script_text.specs.Script.{after_call, after_line, calls_from, most_script_bytes, script_of};
+ghost use Rattle.script_text.specs.Words.{line_call};
 
 use crate::ScriptFault;
 use crate::line_fault::LineFault;
@@ -49,14 +49,15 @@ impl Script {
     }
 }
 
-fn add_call(calls: &mut Vec<Call>, call: Call) -> Result<(), ScriptFault>
-    ensures ok { OnOk result (calls.new.items ≡ calls.old.items ++ call ∷ []) }
-    ensures room { OnOk result (length calls.old.items < 20000) }
-    ensures err { IfErr result (RefusesCall calls.old.items) }
+// So far, processor 0 alone makes calls.
+fn add_call(calls: &mut Vec<Call>, processor: u8, call: Call) -> Result<(), ScriptFault>
+    requires { processor ≡ 0 }
+    ensures ok { OnOk result (after_call (calls.old.items ∷ []) processor call ≡ Ok (calls.new.items ∷ [])) }
+    ensures err { IfErr result (λ e. IsRefusal e (after_call (calls.old.items ∷ []) processor call)) }
 {
     if calls.len() >= MOST_CALLS {
         return Err(ScriptFault::TooManyCalls {
-            processor: 0,
+            processor,
             limit: MOST_CALLS as u32,
         });
     }
@@ -70,21 +71,22 @@ fn read_line(
     line: &[u8],
     calls: &mut Vec<Call>,
 ) -> Result<(), ScriptFault>
-    ensures ok { OnOk result (ReadsLine number line.now calls.old.items calls.new.items) }
-    ensures err { IfErr result (RefusesLine number line.now calls.old.items) }
+    ensures ok { OnOk result (after_line number (calls.old.items ∷ []) (line_call line.now) ≡ Ok (calls.new.items ∷ [])) }
+    ensures err { IfErr result (λ e. IsRefusal e (after_line number (calls.old.items ∷ []) (line_call line.now))) }
 {
     match line_call(alloc, line) {
         Ok(None) => Ok(()),
-        Ok(Some(call)) => add_call(calls, call),
+        Ok(Some((processor, call))) => add_call(calls, processor, call),
         Err(LineFault::Reason(reason)) => Err(ScriptFault::Line { number, reason }),
         Err(LineFault::OutOfMemory) => Err(ScriptFault::OutOfMemory),
     }
 }
 
+#[tactic(auto, unfolding(crate::specs::Script::calls_from))]
 fn calls_of(alloc: Global, text: &[u8]) -> Result<Vec<Call>, ScriptFault>
-    requires { length text.now ≤ 1048576 }
-    ensures ok { IfOk result (λ calls. calls_from 1 20000 (lines text.now) ≡ Ok calls.items) }
-    ensures err { IfErr result (λ e. IsRefusal e (calls_from 1 20000 (lines text.now))) }
+    requires { length text.now ≤ most_script_bytes }
+    ensures ok { IfOk result (λ calls. calls_from 1 ([] ∷ []) (lines text.now) ≡ Ok (calls.items ∷ [])) }
+    ensures err { IfErr result (λ e. IsRefusal e (calls_from 1 ([] ∷ []) (lines text.now))) }
 {
     let mut calls = Vec::new(alloc);
     let mut rest = text;
@@ -98,10 +100,12 @@ fn calls_of(alloc: Global, text: &[u8]) -> Result<Vec<Call>, ScriptFault>
     Ok(calls)
 }
 
-/// The calls that a text spells, of at most 1,048,576 bytes and 20,000 calls; else the first refusal from its front.
+/// The calls that a text of at most 1,048,576 bytes spells, at most 20,000 of a processor; else the first refusal from its front. So far,
+/// processor 0 alone makes calls.
 #[tactic(auto, unfolding(crate::specs::Script::script_of))]
 pub fn read_script(alloc: Global, bytes: &[u8]) -> Result<Script, ScriptFault>
-    ensures { Gives result (script_of bytes.now) }
+    ensures script { Gives result (script_of bytes.now) }
+    ensures one_processor { IfOk result (λ script. length script ≡ 1) }
 {
     if bytes.len() > MOST_BYTES {
         return Err(ScriptFault::TooLong {

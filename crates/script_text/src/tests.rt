@@ -2,7 +2,7 @@
 
 use super::*;
 use std::test::Fail;
-use var_types::{Bytes, Call, Guid, NextCall, SetCall, Units, Verdict};
+use var_types::{Bytes, Call, Guid, NextCall, Put, SetCall, TextBuffer, Units, Verdict};
 
 const GUID: &[u8] = b"8be4df61-93ca-11d2-aa0d-00e098032b8c";
 
@@ -21,23 +21,33 @@ fn spelled(rt: &HostRuntime, text: &[u8]) -> Result<Vec<u8>, Fail> {
 
 // The texts of the calls of the processors, each with a line feed behind it.
 fn texts_of(rt: &HostRuntime, script: Script) -> Result<Vec<u8>, Fail> {
-    let mut all = Bytes::new(rt.alloc());
+    let mut all = TextBuffer::new(rt.alloc());
     for calls in &script.into_processors() {
         for call in calls {
-            write_call(call, &mut all)?;
-            all.append(b"\n")?;
+            write_call(call, &mut all);
+            all.put(b"\n");
         }
     }
-    Ok(all.into_vec())
+    Ok(all.finish()?.into_vec())
 }
 
 #[test]
 fn reads(rt: HostRuntime) -> Result<(), Fail> {
-    let table: [(&[u8], &[u8]); 18] = [
+    let table: [(&[u8], &[u8]); 22] = [
         (b"", b""),
         (b"\n \n\t\n\r\n", b""),
         (b"0 get G A 16", b"get G A 16\n"),
         (b"0 get G A 16\n", b"get G A 16\n"),
+        (
+            b"0 get 8be4df6193ca11d2aa0d00e098032b8c A 1",
+            b"get G A 1\n",
+        ),
+        (b"0 get {G} A 1", b"get G A 1\n"),
+        (b"0 get urn:uuid:G A 1", b"get G A 1\n"),
+        (
+            b"0 get 8BE4DF61-93CA-11D2-AA0D-00E098032B8C A 1",
+            b"get G A 1\n",
+        ),
         (b" \t0\tget  G A\t16 \t", b"get G A 16\n"),
         (b"0 get G A 1\r\n0 get G B 2\r\n", b"get G A 1\nget G B 2\n"),
         (b"#\x80\xff\x00 any byte\n0 get G A 1", b"get G A 1\n"),
@@ -65,23 +75,6 @@ fn reads(rt: HostRuntime) -> Result<(), Fail> {
     Ok(())
 }
 
-#[test]
-fn reads_each_form_of_a_guid(rt: HostRuntime) -> Result<(), Fail> {
-    let table: [&[u8]; 5] = [
-        b"0 get 8be4df61-93ca-11d2-aa0d-00e098032b8c A 1",
-        b"0 get 8be4df6193ca11d2aa0d00e098032b8c A 1",
-        b"0 get {8be4df61-93ca-11d2-aa0d-00e098032b8c} A 1",
-        b"0 get urn:uuid:8be4df61-93ca-11d2-aa0d-00e098032b8c A 1",
-        b"0 get 8BE4DF61-93CA-11D2-AA0D-00E098032B8C A 1",
-    ];
-    let want = spelled(&rt, b"get G A 1\n")?;
-    for text in table {
-        let texts = texts_of(&rt, read_script(rt.alloc(), text)?)?;
-        assert_eq!(rt; texts.as_slice(), want.as_slice());
-    }
-    Ok(())
-}
-
 // Whether each of these lines is refused for a reason.
 fn refuses(rt: &HostRuntime, reason: LineReason, lines: &[&[u8]]) -> Result<bool, Fail> {
     for line in lines {
@@ -94,8 +87,8 @@ fn refuses(rt: &HostRuntime, reason: LineReason, lines: &[&[u8]]) -> Result<bool
 }
 
 #[test]
-fn refuses_a_line_by_its_form(rt: HostRuntime) -> Result<(), Fail> {
-    let table: [(LineReason, &[&[u8]]); 5] = [
+fn refuses_a_line_by_its_front(rt: HostRuntime) -> Result<(), Fail> {
+    let table: [(LineReason, &[&[u8]]); 4] = [
         (
             LineReason::Text,
             &[
@@ -131,6 +124,16 @@ fn refuses_a_line_by_its_form(rt: HostRuntime) -> Result<(), Fail> {
                 b"0 set G A 6 01 good",
             ],
         ),
+    ];
+    for (reason, lines) in table {
+        assert!(rt; refuses(&rt, reason, lines)?, "{reason:?}");
+    }
+    Ok(())
+}
+
+#[test]
+fn refuses_a_line_by_its_words(rt: HostRuntime) -> Result<(), Fail> {
+    let table: [(LineReason, &[&[u8]]); 5] = [
         (
             LineReason::Words,
             &[
@@ -142,16 +145,6 @@ fn refuses_a_line_by_its_form(rt: HostRuntime) -> Result<(), Fail> {
                 b"0 set G A 6 01 good x",
             ],
         ),
-    ];
-    for (reason, lines) in table {
-        assert!(rt; refuses(&rt, reason, lines)?, "{reason:?}");
-    }
-    Ok(())
-}
-
-#[test]
-fn refuses_a_line_by_a_word(rt: HostRuntime) -> Result<(), Fail> {
-    let table: [(LineReason, &[&[u8]]); 4] = [
         (
             LineReason::Guid,
             &[b"0 get 8be4 A 1", b"0 get - % x", b"0 set x A 6 01"],
@@ -281,22 +274,22 @@ fn keeps_the_limit_of_a_name(rt: HostRuntime) -> Result<(), Fail> {
     Ok(())
 }
 
+// The text of a call.
+fn written(rt: &HostRuntime, call: &Call) -> Result<Vec<u8>, Fail> {
+    let mut out = TextBuffer::new(rt.alloc());
+    write_call(call, &mut out);
+    Ok(out.finish()?.into_vec())
+}
+
 #[test]
-fn writes_a_next(rt: HostRuntime) -> Result<(), Fail> {
-    let call = Call::Next(NextCall {
+fn writes(rt: HostRuntime) -> Result<(), Fail> {
+    let next = Call::Next(NextCall {
         guid: Guid::read_bytes(GUID)?,
         name: Units::new(rt.alloc(), &[0x41, 0x20])?,
         room: u32::MAX,
     });
-    let mut out = Bytes::new(rt.alloc());
-    write_call(&call, &mut out)?;
     let want = spelled(&rt, b"next G A%0020 4294967295")?;
-    assert_eq!(rt; out.as_slice(), want.as_slice());
-    Ok(())
-}
-
-#[test]
-fn writes_a_set(rt: HostRuntime) -> Result<(), Fail> {
+    assert_eq!(rt; written(&rt, &next)?.as_slice(), want.as_slice());
     let table: [(&[u16], u32, &[u8], Verdict, &[u8]); 4] = [
         (&[45], 6, &[], Verdict::Good, b"set G %002d 0x00000006 -"),
         (&[], 7, &[1, 255], Verdict::Good, b"set G - 0x00000007 01ff"),
@@ -323,9 +316,10 @@ fn writes_a_set(rt: HostRuntime) -> Result<(), Fail> {
             bytes: Bytes::copy(rt.alloc(), bytes)?,
             verdict,
         });
-        let mut out = Bytes::new(rt.alloc());
-        write_call(&call, &mut out)?;
-        assert_eq!(rt; out.as_slice(), spelled(&rt, want)?.as_slice());
+        assert_eq!(rt;
+            written(&rt, &call)?.as_slice(),
+            spelled(&rt, want)?.as_slice()
+        );
     }
     Ok(())
 }

@@ -177,7 +177,7 @@ fn call_words(alloc: Global, processor: u8, words: &[&[u8]]) -> Result<Call, Lin
 }
 
 #[tactic(auto, unfolding(crate::specs::Words::words_call))]
-fn words_call(alloc: Global, words: &[&[u8]]) -> Result<Option<Call>, LineFault>
+fn words_call(alloc: Global, words: &[&[u8]]) -> Result<Option<(u8, Call)>, LineFault>
     ensures { GivesLine result (words_call (map (λ word. word.now) words.now)) }
 {
     match words {
@@ -185,14 +185,14 @@ fn words_call(alloc: Global, words: &[&[u8]]) -> Result<Option<Call>, LineFault>
         [word, rest @ ..] => {
             let processor = processor_of(word)?;
             let call = call_words(alloc, processor, rest)?;
-            Ok(Some(call))
+            Ok(Some((processor, call)))
         }
     }
 }
 
-/// The call of a line, if it has one, or the first reason to refuse the line.
+/// The call of a line with its processor, if the line has one, or the first reason to refuse it.
 #[tactic(auto, unfolding(crate::specs::Words::line_call))]
-pub fn line_call(alloc: Global, line: &[u8]) -> Result<Option<Call>, LineFault>
+pub fn line_call(alloc: Global, line: &[u8]) -> Result<Option<(u8, Call)>, LineFault>
     ensures { GivesLine result (line_call line.now) }
 {
     if is_comment(line) {

@@ -8,8 +8,8 @@ use Rattle.std.specs.declared.cmp.Ordering.{Ordering}
 use Rattle.std.specs.declared.cmp.Ordering.TheVariants.{Less, Equal, Greater}
 use Rattle.std.specs.Ordering.{is_eq}
 use Rattle.svc_plain.proofs.Sums.{weight_at, sum_by-remove_entry, sum_by-insert_entry}
-use Rattle.svc_plain.specs.Used.{IsCounted, used_of, used_with, used_without}
-use Rattle.svc_plain.specs.declared.used.Used.{Used}
+use Rattle.svc_plain.specs.RoomTotals.{IsTotalOf, total_of, totals_with, totals_without}
+use Rattle.svc_plain.specs.declared.room_totals.RoomTotals.{RoomTotals}
 use Rattle.var_types.proofs.Keys.{key_cmp_total, same_key}
 use Rattle.var_types.specs.Attributes.{store_of}
 use Rattle.var_types.specs.Key.{key_cmp}
@@ -30,28 +30,28 @@ found_key : (key q : Key) → is_at (key_cmp key) q ≡ true → q ≡ key
 found_key key q h = sym (same_key key q (equal_from_test (key_cmp key q) h))
 
 -- a total that falls is that of one store
-less_used : (used : Used) (of store : Store) (n : ℕ)
-    → used_of (used_with used of (used_of used of - n)) store ≡ used_of used store - in_store store of n
-less_used used NonVolatile NonVolatile n = refl
-less_used used NonVolatile Volatile n = omega arith
-less_used used Volatile NonVolatile n = omega arith
-less_used used Volatile Volatile n = refl
+less_total : (totals : RoomTotals) (of store : Store) (n : ℕ)
+    → total_of (totals_with totals of (total_of totals of - n)) store ≡ total_of totals store - in_store store of n
+less_total totals NonVolatile NonVolatile n = refl
+less_total totals NonVolatile Volatile n = omega arith
+less_total totals Volatile NonVolatile n = omega arith
+less_total totals Volatile Volatile n = refl
 
 -- a total that rises is that of one store
-more_used : (used : Used) (of store : Store) (n : ℕ)
-    → used_of (used_with used of (used_of used of + n)) store ≡ used_of used store + in_store store of n
-more_used used NonVolatile NonVolatile n = refl
-more_used used NonVolatile Volatile n = omega arith
-more_used used Volatile NonVolatile n = omega arith
-more_used used Volatile Volatile n = refl
+more_total : (totals : RoomTotals) (of store : Store) (n : ℕ)
+    → total_of (totals_with totals of (total_of totals of + n)) store ≡ total_of totals store + in_store store of n
+more_total totals NonVolatile NonVolatile n = refl
+more_total totals NonVolatile Volatile n = omega arith
+more_total totals Volatile NonVolatile n = omega arith
+more_total totals Volatile Volatile n = refl
 
 -- a total that rises to its limit at most keeps all within their limits
-more_within : (used : Used) (of store : Store) (n : ℕ) → used_of used store ≤ room_limit store → used_of used of + n ≤ room_limit of
-    → used_of (used_with used of (used_of used of + n)) store ≤ room_limit store
-more_within used NonVolatile NonVolatile n within fits = fits
-more_within used NonVolatile Volatile n within fits = within
-more_within used Volatile NonVolatile n within fits = within
-more_within used Volatile Volatile n within fits = fits
+more_within : (totals : RoomTotals) (of store : Store) (n : ℕ) → total_of totals store ≤ room_limit store → total_of totals of + n ≤ room_limit of
+    → total_of (totals_with totals of (total_of totals of + n)) store ≤ room_limit store
+more_within totals NonVolatile NonVolatile n within fits = fits
+more_within totals NonVolatile Volatile n within fits = within
+more_within totals Volatile NonVolatile n within fits = within
+more_within totals Volatile Volatile n within fits = fits
 
 -- a value for a store is one for it
 in_store-same : (store : Store) (n : ℕ) → in_store store store n ≡ n
@@ -59,40 +59,40 @@ in_store-same NonVolatile n = refl
 in_store-same Volatile n = refl
 
 -- the totals without what is found at a key, store by store
-without_used : (used : Used) (key : Key) (found : Option Variable) (store : Store)
-    → used_of (used_without used key found) store ≡ used_of used store - weight_at (room_in store) key found
+without_total : (totals : RoomTotals) (key : Key) (found : Option Variable) (store : Store)
+    → total_of (totals_without totals key found) store ≡ total_of totals store - weight_at (room_in store) key found
 unfolding room_in
-without_used used key None store = omega arith
-without_used used key (Some v) store = less_used used (store_of v.attributes) store (room_of key v)
+without_total totals key None store = omega arith
+without_total totals key (Some v) store = less_total totals (store_of v.attributes) store (room_of key v)
 
 -- the totals without what is found at a key are those of the other variables
-pub counted_without : (used : Used) (key : Key) (es : List (Key × Variable)) → IsCounted used es
-    → IsCounted (used_without used key (lookup (is_at (key_cmp key)) es)) (remove_entry (is_at (key_cmp key)) es)
-counted_without used key es c = record {
-  counted = λ store. omega (arith, without_used used key (lookup (is_at (key_cmp key)) es) store, c.counted store, sum_by-remove_entry (room_in store) (is_at (key_cmp key)) key (found_key key) es);
-  within = λ store. omega (arith, without_used used key (lookup (is_at (key_cmp key)) es) store, c.within store);
+pub IsTotalOf-without : (totals : RoomTotals) (key : Key) (es : List (Key × Variable)) → IsTotalOf totals es
+    → IsTotalOf (totals_without totals key (lookup (is_at (key_cmp key)) es)) (remove_entry (is_at (key_cmp key)) es)
+IsTotalOf-without totals key es c = record {
+  summed = λ store. omega (arith, without_total totals key (lookup (is_at (key_cmp key)) es) store, c.summed store, sum_by-remove_entry (room_in store) (is_at (key_cmp key)) key (found_key key) es);
+  within = λ store. omega (arith, without_total totals key (lookup (is_at (key_cmp key)) es) store, c.within store);
 }
 
 -- the totals with a variable that is put are those of all variables then, where its store has room for it
-pub counted_put : (rest : Used) (key : Key) (v : Variable) (es : List (Key × Variable)) → IsStrictlySortedBy key_cmp (keys_of es)
-    → IsCounted rest (remove_entry (is_at (key_cmp key)) es)
-    → used_of rest (store_of v.attributes) + room_of key v ≤ room_limit (store_of v.attributes)
-    → IsCounted (used_with rest (store_of v.attributes) (used_of rest (store_of v.attributes) + room_of key v)) (insert_entry key_cmp es key v)
+pub IsTotalOf-put : (rest : RoomTotals) (key : Key) (v : Variable) (es : List (Key × Variable)) → IsStrictlySortedBy key_cmp (keys_of es)
+    → IsTotalOf rest (remove_entry (is_at (key_cmp key)) es)
+    → total_of rest (store_of v.attributes) + room_of key v ≤ room_limit (store_of v.attributes)
+    → IsTotalOf (totals_with rest (store_of v.attributes) (total_of rest (store_of v.attributes) + room_of key v)) (insert_entry key_cmp es key v)
 unfolding room_in
-counted_put rest key v es sorted c fits = record {
-  counted = λ store. omega (arith, more_used rest (store_of v.attributes) store (room_of key v), c.counted store, sum_by-insert_entry (room_in store) key_cmp_total same_key key v es sorted);
+IsTotalOf-put rest key v es sorted c fits = record {
+  summed = λ store. omega (arith, more_total rest (store_of v.attributes) store (room_of key v), c.summed store, sum_by-insert_entry (room_in store) key_cmp_total same_key key v es sorted);
   within = λ store. more_within rest (store_of v.attributes) store (room_of key v) (c.within store) fits;
 }
 
 -- what is found takes no more room than its store's total
-pub found_within : (used : Used) (key : Key) (es : List (Key × Variable)) (v : Variable) → IsCounted used es
-    → lookup (is_at (key_cmp key)) es ≡ Some v → room_of key v ≤ used_of used (store_of v.attributes)
+pub found_within : (totals : RoomTotals) (key : Key) (es : List (Key × Variable)) (v : Variable) → IsTotalOf totals es
+    → lookup (is_at (key_cmp key)) es ≡ Some v → room_of key v ≤ total_of totals (store_of v.attributes)
 unfolding room_in
-found_within used key es v c found =
+found_within totals key es v c found =
     let store = store_of v.attributes in
     let P : Option Variable → Type 0 = λ o. room_used store (remove_entry (is_at (key_cmp key)) es) + weight_at (room_in store) key o ≡ room_used store es in
     let sums = subst P found (sum_by-remove_entry (room_in store) (is_at (key_cmp key)) key (found_key key) es) in
-    omega (arith, sums, c.counted store, in_store-same store (room_of key v))
+    omega (arith, sums, c.summed store, in_store-same store (room_of key v))
 
 -- data is shorter than its record's room
 pub length-le-room_of : (key : Key) (v : Variable) → length v.bytes ≤ room_of key v
@@ -104,38 +104,38 @@ limit_small NonVolatile = omega arith
 limit_small Volatile = omega arith
 
 -- the data of what is found is short
-pub found_short : (used : Used) (key : Key) (es : List (Key × Variable)) (v : Variable) → IsCounted used es
+pub found_short : (totals : RoomTotals) (key : Key) (es : List (Key × Variable)) (v : Variable) → IsTotalOf totals es
     → lookup (is_at (key_cmp key)) es ≡ Some v → length v.bytes < 2 ^ 32
-found_short used key es v c found =
-    omega (arith, found_within used key es v c found, length-le-room_of key v, c.within (store_of v.attributes), limit_small (store_of v.attributes))
+found_short totals key es v c found =
+    omega (arith, found_within totals key es v c found, length-le-room_of key v, c.within (store_of v.attributes), limit_small (store_of v.attributes))
 
 -- the data of what may be found is short
-short_found : (used : Used) (key : Key) (es : List (Key × Variable)) → IsCounted used es → (found : Option Variable)
+short_found : (totals : RoomTotals) (key : Key) (es : List (Key × Variable)) → IsTotalOf totals es → (found : Option Variable)
     → lookup (is_at (key_cmp key)) es ≡ found → IfSome found (λ v. length v.bytes < 2 ^ 32)
-short_found used key es c None e = tt
-short_found used key es c (Some v) e = found_short used key es v c e
+short_found totals key es c None e = tt
+short_found totals key es c (Some v) e = found_short totals key es v c e
 
 -- the data of each variable is short
-pub all_short : (used : Used) (es : List (Key × Variable)) → IsCounted used es → (key : Key)
+pub all_short : (totals : RoomTotals) (es : List (Key × Variable)) → IsTotalOf totals es → (key : Key)
     → IfSome (lookup (is_at (key_cmp key)) es) (λ v. length v.bytes < 2 ^ 32)
-all_short used es c key = short_found used key es c (lookup (is_at (key_cmp key)) es) refl
+all_short totals es c key = short_found totals key es c (lookup (is_at (key_cmp key)) es) refl
 
 -- what may be found takes no more room than its store's total
-within_found : (used : Used) (key : Key) (es : List (Key × Variable)) → IsCounted used es → (found : Option Variable)
-    → lookup (is_at (key_cmp key)) es ≡ found → IfSome found (λ v. room_of key v ≤ used_of used (store_of v.attributes))
-within_found used key es c None e = tt
-within_found used key es c (Some v) e = found_within used key es v c e
+within_found : (totals : RoomTotals) (key : Key) (es : List (Key × Variable)) → IsTotalOf totals es → (found : Option Variable)
+    → lookup (is_at (key_cmp key)) es ≡ found → IfSome found (λ v. room_of key v ≤ total_of totals (store_of v.attributes))
+within_found totals key es c None e = tt
+within_found totals key es c (Some v) e = found_within totals key es v c e
 
 -- each variable takes no more room than its store's total
-pub all_within : (used : Used) (es : List (Key × Variable)) → IsCounted used es → (key : Key)
-    → IfSome (lookup (is_at (key_cmp key)) es) (λ v. room_of key v ≤ used_of used (store_of v.attributes))
-all_within used es c key = within_found used key es c (lookup (is_at (key_cmp key)) es) refl
+pub all_within : (totals : RoomTotals) (es : List (Key × Variable)) → IsTotalOf totals es → (key : Key)
+    → IfSome (lookup (is_at (key_cmp key)) es) (λ v. room_of key v ≤ total_of totals (store_of v.attributes))
+all_within totals es c key = within_found totals key es c (lookup (is_at (key_cmp key)) es) refl
 
 -- the totals without what was found are those of the other variables
-pub counted_rest : (used rest : Used) (key : Key) (found : Option Variable) (es variables : List (Key × Variable)) → IsCounted used es
-    → rest ≡ used_without used key found → found ≡ lookup (is_at (key_cmp key)) es → es ≡ variables
-    → IsCounted rest (remove_entry (is_at (key_cmp key)) variables)
-counted_rest used rest key found es variables c without is seen =
-    let r = without ∙ ap (used_without used key) is in
-    subst (λ (vs : List (Key × Variable)). IsCounted rest (remove_entry (is_at (key_cmp key)) vs)) seen
-    (subst (λ (u : Used). IsCounted u (remove_entry (is_at (key_cmp key)) es)) (sym r) (counted_without used key es c))
+pub IsTotalOf-rest : (totals rest : RoomTotals) (key : Key) (found : Option Variable) (es variables : List (Key × Variable)) → IsTotalOf totals es
+    → rest ≡ totals_without totals key found → found ≡ lookup (is_at (key_cmp key)) es → es ≡ variables
+    → IsTotalOf rest (remove_entry (is_at (key_cmp key)) variables)
+IsTotalOf-rest totals rest key found es variables c without is seen =
+    let r = without ∙ ap (totals_without totals key) is in
+    subst (λ (vs : List (Key × Variable)). IsTotalOf rest (remove_entry (is_at (key_cmp key)) vs)) seen
+    (subst (λ (u : RoomTotals). IsTotalOf u (remove_entry (is_at (key_cmp key)) es)) (sym r) (IsTotalOf-without totals key es c))

@@ -2,7 +2,7 @@ use Rattle.std.specs.Prelude.{◌==◌, not, ◌&&◌, if◌then◌else◌, Opti
 use Rattle.svc_plain.specs.declared.decision.Decision.{Decision}
 use Rattle.svc_plain.specs.declared.decision.Decision.TheVariants.{Refuse, Remove, Same, Write}
 use Rattle.var_types.specs.declared.call.SetCall.{SetCall}
-use Rattle.var_types.specs.declared.reason.SetReason.TheVariants.{Missing, AttributesDiffer}
+use Rattle.var_types.specs.declared.set_reason.SetReason.TheVariants.{Missing, AttributesDiffer}
 use Rattle.var_types.specs.declared.reply.SetReply.{SetReply}
 use Rattle.var_types.specs.declared.reply.SetReply.TheVariants.{Same as Unchanged}
 use Rattle.var_types.specs.declared.variable.Variable.{Variable}

@@ -1,3 +1,3 @@
-pub mod Used
+pub mod RoomTotals
 pub mod Decision
 pub mod Above

@@ -2,7 +2,8 @@ ghost use Rattle.std.specs.Prelude.{◌≡◌};
 ghost use Rattle.std.specs.Option.{option_copied};
 ghost use Rattle.svc_plain.specs.Decision.{decision_of};
 
-use crate::rules::{deletes, has_access, same_variable};
+use crate::rules::{deletes, same_variable};
+use var_types::attributes::has_access;
 use var_types::{SetCall, SetReason, Variable};
 
 /// What a set comes to, by what is stored at its key.

@@ -4,9 +4,9 @@
 mod decision;
 mod next;
 mod plain;
+mod room_totals;
 mod rules;
 #[cfg(test)]
 mod tests;
-mod used;
 
 pub use plain::Plain;

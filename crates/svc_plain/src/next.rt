@@ -5,11 +5,12 @@ ghost use Rattle.std.specs.Range.Bound.{bound_map};
 ghost use Rattle.svc_plain.specs.Above.{start_above};
 ghost use Rattle.var_types.specs.Next.{is_above, next_found};
 ghost use Rattle.var_types.specs.Step.{lacks_memory};
+ghost use Rattle.var_types.specs.declared.call.Call.TheVariants.{Next as NextCalled};
 ghost use Rattle.var_types.specs.declared.reply.Reply.TheVariants.{Next as NextReplied};
 
 use std::collections::BTreeMap;
 use std::ops::Bound;
-use var_types::{Key, NextReply, Variable};
+use var_types::{Key, NextCall, NextReply, Variable};
 
 /// The least key of a map above a bound, where there is one.
 pub(crate) fn key_above<'a>(
@@ -35,20 +36,21 @@ fn start_above(bound: Option<&Key>) -> Bound<&Key>
 }
 
 /// The answer from the next key, which is copied.
-pub(crate) fn next_found(key: Option<&Key>, room: u32) -> NextReply
-    ensures { lacks_memory (NextReplied result) ≡ false → result ≡ next_found (option_copied key.entry) room }
+pub(crate) fn next_found(call: &NextCall, key: Option<&Key>) -> NextReply
+    ensures { lacks_memory (NextCalled call.now) (NextReplied result) ≡ false
+        → result ≡ next_found (option_copied key.entry) call.now.room }
 {
     match key {
         None => NextReply::End,
-        Some(key) => next_key(key, room),
+        Some(key) => next_key(call, key),
     }
 }
 
-fn next_key(key: &Key, room: u32) -> NextReply
-    ensures { lacks_memory (NextReplied result) ≡ false → result ≡ next_found (Some key.now) room }
+fn next_key(call: &NextCall, key: &Key) -> NextReply
+    ensures { lacks_memory (NextCalled call.now) (NextReplied result) ≡ false → result ≡ next_found (Some key.now) call.now.room }
 {
     let needed = 2 * key.name.as_slice().len() as u32 + 2;
-    if room < needed {
+    if call.room < needed {
         return NextReply::TooSmall { needed };
     }
     match key.clone() {

@@ -6,25 +6,24 @@ ghost use Rattle.std.specs.Option.{option_copied};
 ghost use Rattle.var_types.specs.Attributes.{store_of};
 ghost use Rattle.var_types.specs.Get.{get_reply, get_found};
 ghost use Rattle.var_types.specs.Key.{key_cmp, key_of};
+ghost use Rattle.var_types.specs.Layout.{largest_record};
 ghost use Rattle.var_types.specs.Next.{next_reply, next_named, next_behind, next_above};
 ghost use Rattle.var_types.specs.Room.{record_size, room_of};
 ghost use Rattle.var_types.specs.Set.{set_step, set_named, set_stored, set_put, set_key, set_change, made_by};
 ghost use Rattle.var_types.specs.State.{start, stored_at, visible_at};
 ghost use Rattle.var_types.specs.Step.{step, lacks_memory};
-ghost use Rattle.svc_plain.specs.Used.{IsCounted, used_of, used_without};
+ghost use Rattle.svc_plain.specs.RoomTotals.{IsTotalOf, total_of, totals_without};
 
 use crate::decision::{Decision, decision_of};
 use crate::next::{key_above, next_found};
-use crate::rules::{
-    LARGEST_RECORD, key_of, made_by, record_size, room_limit, room_made, room_of, store_of,
-};
-use crate::used::Used;
+use crate::room_totals::RoomTotals;
+use crate::rules::{key_of, made_by, room_made};
 use std::alloc::Global;
 use std::collections::BTreeMap;
 use std::marker::Model;
 use var_types::{
-    Bytes, Call, GetCall, GetReply, Key, NameFault, NextCall, NextReply, Reply, SetCall, SetReason,
-    SetReply, Variable, check_name,
+    Bytes, Call, GetCall, GetReply, Key, LARGEST_RECORD, NameFault, NextCall, NextReply, Reply,
+    SetCall, SetReason, SetReply, Store, Variable, check_name, record_size, room_of,
 };
 
 /// The variable service on one thread, which starts with no variable.
@@ -32,7 +31,7 @@ use var_types::{
 pub struct Plain {
     alloc: Global,
     variables: BTreeMap<Key, Variable>,
-    used: Used,
+    totals: RoomTotals,
     made: u64,
     limit: u64,
 }
@@ -40,7 +39,7 @@ pub struct Plain {
 impl Model for Plain {
     ghost use Rattle.std.specs.Prelude.{true, false, []};
     ghost use Rattle.var_types.specs.State.{State};
-    ghost use Rattle.svc_plain.specs.Used.{IsCounted};
+    ghost use Rattle.svc_plain.specs.RoomTotals.{IsTotalOf};
 
     ghost Value = { State };
 
@@ -54,7 +53,7 @@ impl Model for Plain {
       limit = p.limit;
     } };
 
-    ghost invariant = { λ p. IsCounted p.used p.variables.entries };
+    ghost invariant = { λ p. IsTotalOf p.totals p.variables.entries };
 }
 
 impl Plain {
@@ -65,7 +64,7 @@ impl Plain {
         Plain {
             alloc,
             variables: BTreeMap::new(alloc),
-            used: Used {
+            totals: RoomTotals {
                 non_volatile: 0,
                 volatile: 0,
             },
@@ -74,11 +73,11 @@ impl Plain {
         }
     }
 
-    /// Answers a call as the one-thread service does; where memory is wanting, nothing is changed.
+    /// Answers a call as the one-thread service does; a call that was out of memory changes nothing.
     #[tactic(auto, unfolding(var_types::specs::Step::step))]
     pub fn step(&mut self, call: &Call) -> Reply
-        ensures done { lacks_memory result ≡ false → (result, self.new) ≡ step self.old call.now }
-        ensures memory { lacks_memory result ≡ true → self.new ≡ self.old }
+        ensures done { lacks_memory call.now result ≡ false → (result, self.new) ≡ step self.old call.now }
+        ensures memory { lacks_memory call.now result ≡ true → self.new ≡ self.old }
     {
         match call {
             Call::Get(get) => Reply::Get(self.get_reply(get)),
@@ -97,7 +96,7 @@ impl Plain {
     /// A get, by its name.
     #[tactic(auto, unfolding(var_types::specs::Get::get_reply))]
     fn get_reply(&self, call: &GetCall) -> GetReply
-        ensures { lacks_memory (Reply.Get result) ≡ false → result ≡ get_reply self.now call.now }
+        ensures { lacks_memory (Call.Get call.now) (Reply.Get result) ≡ false → result ≡ get_reply self.now call.now }
     {
         match check_name(call.name.as_slice()) {
             Err(_) => GetReply::NotFound,
@@ -107,7 +106,7 @@ impl Plain {
 
     /// A get under a well-formed name.
     fn get_visible(&self, call: &GetCall) -> GetReply
-        ensures { lacks_memory (Reply.Get result) ≡ false
+        ensures { lacks_memory (Call.Get call.now) (Reply.Get result) ≡ false
             → result ≡ get_found (visible_at self.now (key_of call.now.guid call.now.name)) call.now.room }
     {
         get_stored(self.alloc, &self.variables, call)
@@ -116,7 +115,7 @@ impl Plain {
     /// A call for the next name, by the name that it goes on from.
     #[tactic(auto, unfolding(var_types::specs::Next::next_reply))]
     fn next_reply(&self, call: &NextCall) -> NextReply
-        ensures { lacks_memory (Reply.Next result) ≡ false → result ≡ next_reply self.now call.now }
+        ensures { lacks_memory (Call.Next call.now) (Reply.Next result) ≡ false → result ≡ next_reply self.now call.now }
     {
         self.next_named(call, check_name(call.name.as_slice()))
     }
@@ -124,10 +123,10 @@ impl Plain {
     /// A call for the next name, by what the check of the name that it goes on from says.
     #[tactic(auto, unfolding(var_types::specs::Next::next_named))]
     fn next_named(&self, call: &NextCall, named: Result<(), NameFault>) -> NextReply
-        ensures { lacks_memory (Reply.Next result) ≡ false → result ≡ next_named self.now call.now named }
+        ensures { lacks_memory (Call.Next call.now) (Reply.Next result) ≡ false → result ≡ next_named self.now call.now named }
     {
         match named {
-            Err(NameFault::Empty) => next_found(self.next_above(None), call.room),
+            Err(NameFault::Empty) => next_found(call, self.next_above(None)),
             Err(NameFault::TooLong { .. } | NameFault::InnerNul { .. }) => NextReply::NoSuch,
             Ok(()) => self.next_behind(call),
         }
@@ -135,7 +134,7 @@ impl Plain {
 
     /// The answer behind a key, which must be a variable's.
     fn next_behind(&self, call: &NextCall) -> NextReply
-        ensures { lacks_memory (Reply.Next result) ≡ false
+        ensures { lacks_memory (Call.Next call.now) (Reply.Next result) ≡ false
             → result ≡ next_behind self.now call.now (visible_at self.now (key_of call.now.guid call.now.name)) }
     {
         let Ok(key) = key_of(call.guid, &call.name) else {
@@ -143,7 +142,7 @@ impl Plain {
         };
         match self.variables.get(&key) {
             None => NextReply::NoSuch,
-            Some(_) => next_found(self.next_above(Some(&key)), call.room),
+            Some(_) => next_found(call, self.next_above(Some(&key))),
         }
     }
 
@@ -157,8 +156,8 @@ impl Plain {
     /// A set, by its name.
     #[tactic(auto, unfolding(var_types::specs::Set::set_step, var_types::specs::Set::set_named))]
     fn set_step(&mut self, call: &SetCall) -> SetReply
-        ensures done { lacks_memory (Reply.Set result) ≡ false → (result, self.new) ≡ set_step self.old call.now }
-        ensures memory { lacks_memory (Reply.Set result) ≡ true → self.new ≡ self.old }
+        ensures done { lacks_memory (Call.Set call.now) (Reply.Set result) ≡ false → (result, self.new) ≡ set_step self.old call.now }
+        ensures memory { lacks_memory (Call.Set call.now) (Reply.Set result) ≡ true → self.new ≡ self.old }
     {
         match check_name(call.name.as_slice()) {
             Err(fault) => SetReply::Refused(SetReason::Name(fault)),
@@ -169,8 +168,8 @@ impl Plain {
     /// A set under a well-formed name.
     #[tactic(auto, unfolding(var_types::specs::Set::set_named))]
     fn set_named(&mut self, call: &SetCall) -> SetReply
-        ensures done { lacks_memory (Reply.Set result) ≡ false → (result, self.new) ≡ set_named self.old call.now (Ok tt) }
-        ensures memory { lacks_memory (Reply.Set result) ≡ true → self.new ≡ self.old }
+        ensures done { lacks_memory (Call.Set call.now) (Reply.Set result) ≡ false → (result, self.new) ≡ set_named self.old call.now (Ok tt) }
+        ensures memory { lacks_memory (Call.Set call.now) (Reply.Set result) ≡ true → self.new ≡ self.old }
     {
         let have = record_size(&call.name, &call.bytes);
         if have > u64::from(LARGEST_RECORD) {
@@ -188,13 +187,13 @@ impl Plain {
     /// A set, by what is stored at its key.
     fn set_stored(&mut self, call: &SetCall, key: Key) -> SetReply
         requires key { key ≡ set_key call.now }
-        requires size { record_size call.now.name call.now.bytes ≤ LARGEST_RECORD }
-        ensures done { lacks_memory (Reply.Set result) ≡ false
+        requires size { record_size call.now.name call.now.bytes ≤ largest_record }
+        ensures done { lacks_memory (Call.Set call.now) (Reply.Set result) ≡ false
             → (result, self.new) ≡ set_stored self.old call.now (stored_at self.old key) }
-        ensures memory { lacks_memory (Reply.Set result) ≡ true → self.new ≡ self.old }
+        ensures memory { lacks_memory (Call.Set call.now) (Reply.Set result) ≡ true → self.new ≡ self.old }
     {
         let found = self.variables.get(&key);
-        let rest = rest_of(self.used, &key, found);
+        let rest = rest_of(self.totals, &key, found);
         match decision_of(call, found) {
             Decision::Refuse(reason) => SetReply::Refused(reason),
             Decision::Remove => self.set_removed(&key, rest),
@@ -204,44 +203,44 @@ impl Plain {
     }
 
     /// Deletes what is stored at a key, after which the totals are `rest`.
-    fn set_removed(&mut self, key: &Key, rest: Used) -> SetReply
-        requires { IsCounted rest (remove_entry (is_at (key_cmp key.now)) self.old.variables) }
+    fn set_removed(&mut self, key: &Key, rest: RoomTotals) -> SetReply
+        requires { IsTotalOf rest (remove_entry (is_at (key_cmp key.now)) self.old.variables) }
         ensures { (result, self.new) ≡ set_change self.old (remove_entry (is_at (key_cmp key.now)) self.old.variables) }
     {
         if self.limit <= self.made {
             return SetReply::Refused(SetReason::HistoryFull { made: self.made });
         }
         self.variables.remove(key);
-        self.used = rest;
+        self.totals = rest;
         self.made += 1;
         SetReply::Ok
     }
 
     /// Puts the variable of a set if its store has room, where `rest` has the totals of the other variables.
     #[tactic(auto, unfolding(var_types::specs::Set::set_put, var_types::specs::Room::room_needed))]
-    fn set_put(&mut self, call: &SetCall, key: Key, rest: Used) -> SetReply
+    fn set_put(&mut self, call: &SetCall, key: Key, rest: RoomTotals) -> SetReply
         requires key { key ≡ set_key call.now }
-        requires size { record_size call.now.name call.now.bytes ≤ LARGEST_RECORD }
-        requires rest { IsCounted rest (remove_entry (is_at (key_cmp key)) self.old.variables) }
-        ensures done { lacks_memory (Reply.Set result) ≡ false → (result, self.new) ≡ set_put self.old call.now }
-        ensures memory { lacks_memory (Reply.Set result) ≡ true → self.new ≡ self.old }
+        requires size { record_size call.now.name call.now.bytes ≤ largest_record }
+        requires rest { IsTotalOf rest (remove_entry (is_at (key_cmp key)) self.old.variables) }
+        ensures done { lacks_memory (Call.Set call.now) (Reply.Set result) ≡ false → (result, self.new) ≡ set_put self.old call.now }
+        ensures memory { lacks_memory (Call.Set call.now) (Reply.Set result) ≡ true → self.new ≡ self.old }
     {
-        let store = store_of(call.attributes);
+        let store = Store::of(call.attributes);
         let need = rest.of(store) + room_made(call);
-        let have = room_limit(store);
+        let have = store.room_limit();
         if need > have {
             return SetReply::Refused(SetReason::Room { need, have });
         }
         self.set_written(call, key, rest.with(store, need))
     }
 
-    /// Puts the variable of a set, after which the totals are `used`.
-    fn set_written(&mut self, call: &SetCall, key: Key, used: Used) -> SetReply
+    /// Puts the variable of a set, after which the totals are `totals`.
+    fn set_written(&mut self, call: &SetCall, key: Key, totals: RoomTotals) -> SetReply
         requires { IsStrictlySortedBy key_cmp (keys_of self.old.variables)
-            → IsCounted used (insert_entry key_cmp self.old.variables key (made_by call.now)) }
-        ensures done { lacks_memory (Reply.Set result) ≡ false
+            → IsTotalOf totals (insert_entry key_cmp self.old.variables key (made_by call.now)) }
+        ensures done { lacks_memory (Call.Set call.now) (Reply.Set result) ≡ false
             → (result, self.new) ≡ set_change self.old (insert_entry key_cmp self.old.variables key (made_by call.now)) }
-        ensures memory { lacks_memory (Reply.Set result) ≡ true → self.new ≡ self.old }
+        ensures memory { lacks_memory (Call.Set call.now) (Reply.Set result) ≡ true → self.new ≡ self.old }
     {
         if self.limit <= self.made {
             return SetReply::Refused(SetReason::HistoryFull { made: self.made });
@@ -252,7 +251,7 @@ impl Plain {
         match self.variables.insert(key, variable) {
             Err(_) => SetReply::OutOfMemory,
             Ok(_) => {
-                self.used = used;
+                self.totals = totals;
                 self.made += 1;
                 SetReply::Ok
             }
@@ -263,7 +262,7 @@ impl Plain {
 /// The answer from what is stored at a call's key.
 fn get_stored(alloc: Global, variables: &BTreeMap<Key, Variable>, call: &GetCall) -> GetReply
     requires { (key : Key) → IfSome (get key_cmp variables.now key) (λ variable. length variable.bytes < 2 ^ 32) }
-    ensures { lacks_memory (Reply.Get result) ≡ false
+    ensures { lacks_memory (Call.Get call.now) (Reply.Get result) ≡ false
         → result ≡ get_found (get key_cmp variables.now (key_of call.now.guid call.now.name)) call.now.room }
 {
     let Ok(key) = key_of(call.guid, &call.name) else {
@@ -271,18 +270,18 @@ fn get_stored(alloc: Global, variables: &BTreeMap<Key, Variable>, call: &GetCall
     };
     match variables.get(&key) {
         None => GetReply::NotFound,
-        Some(variable) => get_found(alloc, variable, call.room),
+        Some(variable) => get_found(alloc, call, variable),
     }
 }
 
 /// The answer from a variable.
-fn get_found(alloc: Global, variable: &Variable, room: u32) -> GetReply
+fn get_found(alloc: Global, call: &GetCall, variable: &Variable) -> GetReply
     requires { length variable.now.bytes < 2 ^ 32 }
-    ensures { lacks_memory (Reply.Get result) ≡ false → result ≡ get_found (Some variable.now) room }
+    ensures { lacks_memory (Call.Get call.now) (Reply.Get result) ≡ false → result ≡ get_found (Some variable.now) call.now.room }
 {
     let bytes = variable.bytes.as_slice();
     let needed = bytes.len() as u32;
-    if room < needed {
+    if call.room < needed {
         return GetReply::TooSmall {
             attributes: variable.attributes,
             needed,
@@ -298,16 +297,16 @@ fn get_found(alloc: Global, variable: &Variable, room: u32) -> GetReply
 }
 
 /// The totals without what is stored at a key.
-fn rest_of(used: Used, key: &Key, found: Option<&Variable>) -> Used
+fn rest_of(totals: RoomTotals, key: &Key, found: Option<&Variable>) -> RoomTotals
     requires { IfSome (option_copied found)
-        (λ variable. room_of key.now variable ≤ used_of used (store_of variable.attributes)) }
-    ensures { result ≡ used_without used key.now (option_copied found.entry) }
+        (λ variable. room_of key.now variable ≤ total_of totals (store_of variable.attributes)) }
+    ensures { result ≡ totals_without totals key.now (option_copied found.entry) }
 {
     match found {
-        None => used,
+        None => totals,
         Some(variable) => {
-            let store = store_of(variable.attributes);
-            used.with(store, used.of(store) - room_of(key, variable) as u32)
+            let store = Store::of(variable.attributes);
+            totals.with(store, totals.of(store) - room_of(key, variable) as u32)
         }
     }
 }

@@ -1,5 +1,6 @@
 use crate::Plain;
 use std::alloc::Global;
+use std::process::Abort;
 use std::test::Fail;
 use var_types::{
     Bytes, Call, GetCall, GetReply, Guid, NameFault, NextCall, NextReply, Reply, SetCall,
@@ -32,25 +33,39 @@ const C: u16 = 67;
 
 const Z: u16 = 90;
 
-/// A set of `size` equal bytes.
-fn set(
-    service: &mut Plain,
-    alloc: Global,
-    name: &[u16],
-    attributes: u32,
-    size: usize,
-) -> Result<Reply, Fail> {
-    set_of(service, alloc, (VENDOR, name), attributes, size)
+/// Attributes of a non-volatile and of a volatile variable.
+const KEPT: u32 = 7;
+
+const LOST: u32 = 6;
+
+/// What a set came to.
+#[derive(Clone, Copy, Debug, PartialEq, Eq)]
+enum Outcome {
+    Changed,
+    Same,
+    Refused(SetReason),
+    OutOfMemory,
+    OfAnotherKind,
+}
+
+fn outcome_of(reply: &Reply) -> Outcome {
+    match reply {
+        Reply::Set(SetReply::Ok) => Outcome::Changed,
+        Reply::Set(SetReply::Same) => Outcome::Same,
+        Reply::Set(SetReply::Refused(reason)) => Outcome::Refused(*reason),
+        Reply::Set(SetReply::OutOfMemory) => Outcome::OutOfMemory,
+        Reply::Get(_) | Reply::Next(_) => Outcome::OfAnotherKind,
+    }
 }
 
 /// A set of `size` equal bytes under a vendor's name.
-fn set_of(
+fn set(
     service: &mut Plain,
     alloc: Global,
     (guid, name): (Guid, &[u16]),
     attributes: u32,
     size: usize,
-) -> Result<Reply, Fail> {
+) -> Result<Outcome, Fail> {
     let call = Call::Set(SetCall {
         guid,
         name: Units::new(alloc, name)?,
@@ -58,7 +73,7 @@ fn set_of(
         bytes: Bytes::from_vec(vec![in alloc; 9; size]?),
         verdict: Verdict::Good,
     });
-    Ok(service.step(&call))
+    Ok(outcome_of(&service.step(&call)))
 }
 
 fn get(service: &mut Plain, alloc: Global, name: &[u16], room: u32) -> Result<Reply, Fail> {
@@ -88,7 +103,7 @@ fn next(
 fn three_variables(alloc: Global) -> Result<Plain, Fail> {
     let mut service = Plain::new(alloc, 9);
     for (guid, unit) in [(UPPER, Z), (LOWER, B), (LOWER, A)] {
-        set_of(&mut service, alloc, (guid, &[unit]), 6, 1)?;
+        set(&mut service, alloc, (guid, &[unit]), LOST, 1)?;
     }
     Ok(service)
 }
@@ -97,128 +112,149 @@ fn is_no_such(reply: &Reply) -> bool {
     matches!(reply, Reply::Next(NextReply::NoSuch))
 }
 
-fn is_done(reply: &Reply) -> bool {
-    matches!(reply, Reply::Set(SetReply::Ok))
-}
-
 fn is_not_found(reply: &Reply) -> bool {
     matches!(reply, Reply::Get(GetReply::NotFound))
 }
 
-fn refusal(reply: &Reply) -> Option<SetReason> {
-    match reply {
-        Reply::Set(SetReply::Refused(reason)) => Some(*reason),
-        _ => None,
-    }
+/// Sets that a new service answers one after the other, each with its name, attributes and size, and how many changes they make.
+#[derive(Clone, Copy)]
+struct Sets<'a> {
+    limit: u64,
+    sets: &'a [(&'a [u16], u32, usize, Outcome)],
+    made: u64,
 }
 
-#[test]
-fn a_set_is_read_back(rt: HostRuntime) -> Result<(), Fail> {
-    let alloc = rt.alloc();
-    let mut service = Plain::new(alloc, 9);
-    assert!(rt; is_not_found(&get(&mut service, alloc, &[A], 9)?));
-    assert!(rt; is_done(&set(&mut service, alloc, &[A], 7, 3)?));
-    match get(&mut service, alloc, &[A], 3)? {
-        Reply::Get(GetReply::Ok { attributes, bytes }) => {
-            assert_eq!(rt; attributes, 7);
-            assert_eq!(rt; bytes.as_slice(), [9, 9, 9].as_slice());
-        }
-        other => panic!(rt; "{other:?}"),
+fn answers(rt: &impl Abort, alloc: Global, want: &Sets) -> Result<(), Fail> {
+    let mut service = Plain::new(alloc, want.limit);
+    for (name, attributes, size, outcome) in want.sets {
+        let have = set(&mut service, alloc, (VENDOR, name), *attributes, *size)?;
+        assert_eq!(rt; have, *outcome, "{attributes} {size}");
     }
-    match get(&mut service, alloc, &[A], 2)? {
-        Reply::Get(GetReply::TooSmall { attributes, needed }) => {
-            assert_eq!(rt; (attributes, needed), (7, 3));
-        }
-        other => panic!(rt; "{other:?}"),
-    }
+    assert_eq!(rt; service.made(), want.made);
     Ok(())
 }
 
 #[test]
-fn the_same_set_changes_nothing(rt: HostRuntime) -> Result<(), Fail> {
-    let alloc = rt.alloc();
-    let mut service = Plain::new(alloc, 9);
-    assert!(rt; is_done(&set(&mut service, alloc, &[A], 7, 3)?));
-    let again = set(&mut service, alloc, &[A], 7, 3)?;
-    assert!(rt; matches!(again, Reply::Set(SetReply::Same)));
-    assert_eq!(rt; service.made(), 1);
-    assert!(rt; is_done(&set(&mut service, alloc, &[A], 7, 4)?));
-    assert_eq!(rt; service.made(), 2);
-    Ok(())
-}
-
-#[test]
-fn the_history_is_bounded(rt: HostRuntime) -> Result<(), Fail> {
-    let alloc = rt.alloc();
-    let mut service = Plain::new(alloc, 1);
-    assert!(rt; is_done(&set(&mut service, alloc, &[A], 6, 1)?));
-    let full = set(&mut service, alloc, &[B], 6, 1)?;
-    assert_eq!(rt; refusal(&full), Some(SetReason::HistoryFull { made: 1 }));
-    Ok(())
-}
-
-#[test]
-fn ill_formed_names_are_refused(rt: HostRuntime) -> Result<(), Fail> {
-    let alloc = rt.alloc();
-    let mut service = Plain::new(alloc, 9);
-    let long = vec![in alloc; A; 513]?;
-    let cases = [
-        ([].as_slice(), NameFault::Empty),
-        (long.as_slice(), NameFault::TooLong { units: 513 }),
-        ([A, 0, B].as_slice(), NameFault::InnerNul { at: 1 }),
-    ];
-    for (name, want) in cases {
-        let reply = set(&mut service, alloc, name, 6, 1)?;
-        assert_eq!(rt; refusal(&reply), Some(SetReason::Name(want)));
-        assert!(rt; is_not_found(&get(&mut service, alloc, name, 9)?));
-    }
-    Ok(())
-}
-
-#[test]
-fn a_record_is_bounded(rt: HostRuntime) -> Result<(), Fail> {
-    let alloc = rt.alloc();
-    let mut service = Plain::new(alloc, 9);
-    let large = set(&mut service, alloc, &[A], 6, 33_729)?;
-    let want = SetReason::Size {
+fn sets_are_answered_by_the_first_case(rt: HostRuntime) -> Result<(), Fail> {
+    let name = |fault| Outcome::Refused(SetReason::Name(fault));
+    let differ = |stored, asked| Outcome::Refused(SetReason::AttributesDiffer { stored, asked });
+    let missing = Outcome::Refused(SetReason::Missing);
+    let large = SetReason::Size {
         have: 33_793,
         limit: 33_792,
     };
-    assert_eq!(rt; refusal(&large), Some(want));
-    assert!(rt; is_done(&set(&mut service, alloc, &[A], 6, 33_728)?));
+    for want in [
+        Sets {
+            limit: 9,
+            sets: &[
+                (&[], LOST, 1, name(NameFault::Empty)),
+                (&[A; 513], LOST, 1, name(NameFault::TooLong { units: 513 })),
+                (&[A, 0, B], LOST, 1, name(NameFault::InnerNul { at: 1 })),
+                (&[A], LOST, 33_729, Outcome::Refused(large)),
+                (&[A], LOST, 33_728, Outcome::Changed),
+            ],
+            made: 1,
+        },
+        Sets {
+            limit: 9,
+            sets: &[
+                (&[A], KEPT, 3, Outcome::Changed),
+                (&[A], KEPT, 3, Outcome::Same),
+                (&[A], KEPT, 4, Outcome::Changed),
+            ],
+            made: 2,
+        },
+        Sets {
+            limit: 9,
+            sets: &[
+                (&[A], LOST, 0, missing),
+                (&[A], 0, 3, missing),
+                (&[A], LOST, 2, Outcome::Changed),
+                (&[A], KEPT, 0, differ(LOST, KEPT)),
+                (&[A], LOST, 0, Outcome::Changed),
+                (&[A], LOST, 2, Outcome::Changed),
+                (&[A], 0, 3, Outcome::Changed),
+                (&[A], 0, 0, missing),
+            ],
+            made: 4,
+        },
+    ] {
+        answers(&rt, rt.alloc(), &want)?;
+    }
     Ok(())
 }
 
 #[test]
-fn a_deletion_takes_what_is_stored(rt: HostRuntime) -> Result<(), Fail> {
-    let alloc = rt.alloc();
-    let mut service = Plain::new(alloc, 9);
-    let missing = set(&mut service, alloc, &[A], 6, 0)?;
-    assert_eq!(rt; refusal(&missing), Some(SetReason::Missing));
-    assert!(rt; is_done(&set(&mut service, alloc, &[A], 6, 2)?));
-    let differ = set(&mut service, alloc, &[A], 7, 0)?;
-    let want = SetReason::AttributesDiffer {
-        stored: 6,
-        asked: 7,
-    };
-    assert_eq!(rt; refusal(&differ), Some(want));
-    assert!(rt; is_done(&set(&mut service, alloc, &[A], 6, 0)?));
-    assert!(rt; is_not_found(&get(&mut service, alloc, &[A], 9)?));
+fn stores_and_the_history_are_bounded(rt: HostRuntime) -> Result<(), Fail> {
+    let room = |need, have| Outcome::Refused(SetReason::Room { need, have });
+    let history = |made| Outcome::Refused(SetReason::HistoryFull { made });
+    for want in [
+        Sets {
+            limit: 9,
+            sets: &[
+                (&[A], LOST, 30_000, Outcome::Changed),
+                (&[B], LOST, 30_000, Outcome::Changed),
+                (&[C], LOST, 5_400, room(65_592, 65_508)),
+            ],
+            made: 2,
+        },
+        Sets {
+            limit: 9,
+            sets: &[
+                (&[A], KEPT, 33_728, Outcome::Changed),
+                (&[B], KEPT, 23_388, Outcome::Changed),
+                (&[B], KEPT, 23_389, room(57_248, 57_244)),
+                (&[B], KEPT, 23_385, Outcome::Changed),
+                (&[A], KEPT, 33_727, Outcome::Changed),
+                (&[C], KEPT, 1, room(57_312, 57_244)),
+                (&[C], LOST, 1, Outcome::Changed),
+            ],
+            made: 5,
+        },
+        Sets {
+            limit: 2,
+            sets: &[
+                (&[A], KEPT, 33_728, Outcome::Changed),
+                (&[B], KEPT, 23_388, Outcome::Changed),
+                (&[B], KEPT, 23_389, room(57_248, 57_244)),
+                (&[B], KEPT, 23_387, history(2)),
+                (&[A], KEPT, 0, history(2)),
+            ],
+            made: 2,
+        },
+    ] {
+        answers(&rt, rt.alloc(), &want)?;
+    }
     Ok(())
 }
 
 #[test]
-fn a_store_is_bounded(rt: HostRuntime) -> Result<(), Fail> {
+fn sets_are_read_back(rt: HostRuntime) -> Result<(), Fail> {
     let alloc = rt.alloc();
-    let mut service = Plain::new(alloc, 9);
-    assert!(rt; is_done(&set(&mut service, alloc, &[A], 6, 30_000)?));
-    assert!(rt; is_done(&set(&mut service, alloc, &[B], 6, 30_000)?));
-    let third = set(&mut service, alloc, &[C], 6, 5_400)?;
-    let want = SetReason::Room {
-        need: 65_592,
-        have: 65_508,
-    };
-    assert_eq!(rt; refusal(&third), Some(want));
+    for size in [3, 33_728] {
+        let mut service = Plain::new(alloc, 9);
+        assert!(rt; is_not_found(&get(&mut service, alloc, &[A], size)?));
+        set(&mut service, alloc, (VENDOR, &[A]), KEPT, size as usize)?;
+        match get(&mut service, alloc, &[A], size)? {
+            Reply::Get(GetReply::Ok { attributes, bytes }) => {
+                assert_eq!(rt; attributes, KEPT);
+                assert_eq!(rt;
+                    bytes.as_slice(),
+                    vec![in alloc; 9; size as usize]?.as_slice()
+                );
+            }
+            other => panic!(rt; "{other:?}"),
+        }
+        match get(&mut service, alloc, &[A], size - 1)? {
+            Reply::Get(GetReply::TooSmall { attributes, needed }) => {
+                assert_eq!(rt; (attributes, needed), (KEPT, size));
+            }
+            other => panic!(rt; "{other:?}"),
+        }
+        for name in [[].as_slice(), &[A; 513], &[A, 0, B], &[B]] {
+            assert!(rt; is_not_found(&get(&mut service, alloc, name, size)?));
+        }
+    }
     Ok(())
 }
 
@@ -242,26 +278,7 @@ fn a_walk_answers_each_key_in_order(rt: HostRuntime) -> Result<(), Fail> {
     }
     let last = next(&mut service, alloc, (UPPER, &[Z]), 4)?;
     assert!(rt; matches!(last, Reply::Next(NextReply::End)));
-    Ok(())
-}
-
-#[test]
-fn a_name_must_fit(rt: HostRuntime) -> Result<(), Fail> {
-    let alloc = rt.alloc();
-    let mut service = three_variables(alloc)?;
-    match next(&mut service, alloc, (VENDOR, &[]), 3)? {
-        Reply::Next(NextReply::TooSmall { needed }) => assert_eq!(rt; needed, 4),
-        other => panic!(rt; "{other:?}"),
-    }
-    Ok(())
-}
-
-#[test]
-fn a_walk_goes_on_from_a_variable_alone(rt: HostRuntime) -> Result<(), Fail> {
-    let alloc = rt.alloc();
-    let mut service = three_variables(alloc)?;
-    let long = vec![in alloc; A; 513]?;
-    for name in [[C].as_slice(), long.as_slice(), [A, 0, B].as_slice()] {
+    for name in [[C].as_slice(), &[A; 513], &[A, 0, B]] {
         assert!(rt; is_no_such(&next(&mut service, alloc, (LOWER, name), 9)?));
     }
     assert!(rt; is_no_such(&next(&mut service, alloc, (UPPER, &[A]), 9)?));
@@ -269,18 +286,31 @@ fn a_walk_goes_on_from_a_variable_alone(rt: HostRuntime) -> Result<(), Fail> {
 }
 
 #[test]
+fn a_name_must_fit(rt: HostRuntime) -> Result<(), Fail> {
+    let alloc = rt.alloc();
+    for (name, size) in [([A].as_slice(), 4), (&[A; 512], 1_026)] {
+        let mut service = Plain::new(alloc, 9);
+        set(&mut service, alloc, (VENDOR, name), LOST, 1)?;
+        match next(&mut service, alloc, (VENDOR, &[]), size)? {
+            Reply::Next(NextReply::Ok { key }) => assert_eq!(rt; key.name.as_slice(), name),
+            other => panic!(rt; "{other:?}"),
+        }
+        match next(&mut service, alloc, (VENDOR, &[]), size - 1)? {
+            Reply::Next(NextReply::TooSmall { needed }) => assert_eq!(rt; needed, size),
+            other => panic!(rt; "{other:?}"),
+        }
+    }
+    Ok(())
+}
+
+#[test]
 fn a_walk_leaves_out_what_was_deleted(rt: HostRuntime) -> Result<(), Fail> {
     let alloc = rt.alloc();
     let mut service = three_variables(alloc)?;
-    let differ = set_of(&mut service, alloc, (LOWER, &[A]), 2, 1)?;
-    let want = SetReason::AttributesDiffer {
-        stored: 6,
-        asked: 2,
-    };
-    assert_eq!(rt; refusal(&differ), Some(want));
-    assert!(rt; is_done(&set_of(&mut service, alloc, (LOWER, &[A]), 0, 0)?));
-    let missing = set_of(&mut service, alloc, (LOWER, &[A]), 0, 0)?;
-    assert_eq!(rt; refusal(&missing), Some(SetReason::Missing));
+    assert_eq!(rt;
+        set(&mut service, alloc, (LOWER, &[A]), 0, 0)?,
+        Outcome::Changed
+    );
     assert!(rt; is_no_such(&next(&mut service, alloc, (LOWER, &[A]), 9)?));
     match next(&mut service, alloc, (LOWER, &[]), 9)? {
         Reply::Next(NextReply::Ok { key }) => assert_eq!(rt; key.name.as_slice(), [B].as_slice()),

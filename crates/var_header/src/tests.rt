@@ -1,4 +1,7 @@
-use crate::{Header, HeaderFault, clear, read_header, write_header};
+use crate::{
+    Header, HeaderFault, VAR_ADDED, VAR_DELETED, VAR_HEADER_VALID_ONLY, VAR_IN_DELETED_TRANSITION,
+    clear, read_header, write_header,
+};
 
 // A record as firmware has it: the variable BootOrder of the global namespace, attributes 7, the bytes 01 00, ADDED.
 const RECORD: [u8; 82] = [
@@ -13,40 +16,17 @@ const RECORD: [u8; 82] = [
 const BOOT_ORDER: Header = Header {
     state: 0x3F,
     attributes: 7,
-    stamp: [0; 16],
+    time_stamp: [0; 16],
     name_size: 20,
     data_size: 2,
-    guid: [
+    vendor_guid: [
         0x61, 0xdf, 0xe4, 0x8b, 0xca, 0x93, 0xd2, 0x11, 0xaa, 0x0d, 0x00, 0xe0, 0x98, 0x03, 0x2b,
         0x8c,
     ],
 };
 
 #[test]
-fn a_header_is_read_and_written(rt: HostRuntime) {
-    let header = match read_header(&RECORD, 0, false) {
-        Ok(header) => header,
-        Err(_) => Header {
-            state: 0,
-            ..BOOT_ORDER
-        },
-    };
-    assert_eq!(rt; header.state, 0x3F);
-    assert_eq!(rt; header.attributes, 7);
-    assert_eq!(rt; header.stamp, [0; 16]);
-    assert_eq!(rt; header.name_size, 20);
-    assert_eq!(rt; header.data_size, 2);
-    assert_eq!(rt; header.guid, BOOT_ORDER.guid);
-    let mut written = RECORD;
-    for byte in written[..60].iter_mut() {
-        *byte = 0xFF;
-    }
-    write_header(&BOOT_ORDER, &mut written);
-    assert_eq!(rt; written.as_slice(), RECORD.as_slice());
-}
-
-#[test]
-fn a_header_past_the_end_is_none(rt: HostRuntime) {
+fn headers_are_read(rt: HostRuntime) {
     let cases = [
         (60, 0, Ok(BOOT_ORDER)),
         (59, 0, Err(HeaderFault::PastEnd { at: 0 })),
@@ -61,23 +41,30 @@ fn a_header_past_the_end_is_none(rt: HostRuntime) {
             "{end} bytes at {at}"
         );
     }
+    let mut swapped = RECORD;
+    swapped[0] = 0x55;
+    swapped[1] = 0xAA;
+    assert_eq!(rt; read_header(&swapped, 0, false), Err(HeaderFault::NoStart));
 }
 
 #[test]
-fn a_start_mark_is_in_its_order(rt: HostRuntime) {
-    let mut bytes = RECORD;
-    bytes[0] = 0x55;
-    bytes[1] = 0xAA;
-    assert_eq!(rt; read_header(&bytes, 0, false), Err(HeaderFault::NoStart));
+fn a_header_is_written(rt: HostRuntime) {
+    let mut written = RECORD;
+    for byte in written[..60].iter_mut() {
+        *byte = 0xFF;
+    }
+    write_header(&BOOT_ORDER, &mut written);
+    assert_eq!(rt; written.as_slice(), RECORD.as_slice());
 }
 
 #[test]
 fn states_lose_bits_alone(rt: HostRuntime) {
     for (state, mask, want) in [
-        (0x3F, 0xFE, 0x3E),
-        (0x3E, 0xFD, 0x3C),
-        (0xFF, 0x7F, 0x7F),
-        (0x3C, 0xFE, 0x3C),
+        (0xFF, VAR_HEADER_VALID_ONLY, 0x7F),
+        (VAR_HEADER_VALID_ONLY, VAR_ADDED, 0x3F),
+        (VAR_ADDED, VAR_IN_DELETED_TRANSITION, 0x3E),
+        (0x3E, VAR_DELETED, 0x3C),
+        (0x3C, VAR_IN_DELETED_TRANSITION, 0x3C),
     ] {
         assert_eq!(rt; clear(state, mask), want);
     }

@@ -3,6 +3,7 @@ use Rattle.std.proofs.Common.{◌≡◌, ℕ, not, suc, ◌+◌, ◌*◌, ◌-�
 use Rattle.std.proofs.lemmas.Bool.{lt-ltb}
 use Rattle.std.proofs.lemmas.Bool.Decides.{nat_tests}
 use Rattle.std.specs.List.{list_any, position_or_len}
+use Rattle.var_types.specs.Layout.{longest_name}
 use Rattle.var_types.specs.Live.{before_nul, if_named, units_in, well_formed}
 use Rattle.var_types.specs.Name.{nul_check}
 use Rattle.var_types.specs.declared.name.NameFault.TheVariants.{Empty, TooLong}
@@ -75,8 +76,8 @@ nul_within (u ∷ us) = by (u == 0) (nul_within us)
 
 -- units are a well-formed name where there are some, not too many, and none is a NUL
 pub well_formed_is : (units : List ℕ)
-    → well_formed (Some units) ≡ cond (length units == 0 || nat_lt 512 (length units) || list_any is_nul units) None (Some units)
-well_formed_is units = by (length units == 0) (nat_lt 512 (length units)) (nat_lt (position_or_len is_nul units) (length units)) (nul_within units)
+    → well_formed (Some units) ≡ cond (length units == 0 || nat_lt longest_name (length units) || list_any is_nul units) None (Some units)
+well_formed_is units = by (length units == 0) (nat_lt longest_name (length units)) (nat_lt (position_or_len is_nul units) (length units)) (nul_within units)
   where
     by : (none many : Bool) (b : Bool) → b ≡ list_any is_nul units
         → if_named units (cond none (Err Empty) (cond many (Err (TooLong (length units))) (nul_check (cond b (Some (position_or_len is_nul units)) None))))

@@ -1,3 +1,3 @@
 pub mod Erased
 pub mod LentNames
-pub mod Searches
+pub mod LiveRecords

@@ -3,4 +3,4 @@ pub mod Laws
 pub mod Names
 pub mod Found
 pub mod Wanted
-pub mod Searched
+pub mod Lives

@@ -1,29 +1,27 @@
 //! The least key above a bound that callers see: a pass for the least key, one for its record, and on only from one that is not seen.
-ghost use Rattle.std.specs.Prelude.{◌≡◌, ◌≤◌, Option, Some, None, IfSome, length};
-ghost use Rattle.std.specs.Option.{option_map, option_or};
-ghost use Rattle.var_types.specs.declared.key.Key.{Key};
-ghost use Rattle.var_types.specs.declared.variable.Variable.{Variable};
-ghost use Rattle.var_types.proofs.Least.{is_shown, lower, shown_above, shown_or};
-ghost use Rattle.var_types.proofs.Maps.{variable_of};
+ghost use Rattle.std.specs.Prelude.{◌≡◌, ◌≤◌, length, Some, None, IfSome};
+ghost use Rattle.std.specs.Option.{option_map};
+ghost use Rattle.var_types.specs.Chosen.{chosen};
 ghost use Rattle.var_types.specs.Key.{key_cmp};
-ghost use Rattle.var_types.specs.Live.{chosen};
+ghost use Rattle.var_types.specs.Layout.{longest_region};
+ghost use Rattle.var_types.specs.Least.{is_shown, least_from, lower, lower_above, shown};
 ghost use Rattle.var_types.specs.Next.{is_above};
-ghost use Rattle.var_region.specs.Found.{offered, seen, seen_entry, seen_key};
-ghost use Rattle.var_region.specs.Searched.{least_at, lives_at, lowered};
+ghost use Rattle.var_types.specs.Region.{entry_above, region_lives};
+ghost use Rattle.var_region.specs.Found.{seen, seen_entry, seen_key, seen_variable};
 ghost use Rattle.var_region.specs.Wanted.{bound_of, wanted_key};
 
+use crate::Region;
 use crate::find::search;
-use crate::found::{Found, Offer, offer_of};
-use crate::records::{next_place, record_at};
-use crate::wanted::{Name, Wanted, order_found, wanted_of};
+use crate::found::Found;
+use crate::wanted::Wanted;
 use var_types::Guid;
-use var_types::attributes::RUNTIME_ACCESS;
+use var_types::attributes::{RUNTIME_ACCESS, has};
 
 fn is_above(bound: &Option<Wanted>, found: &Found) -> bool
     ensures { result ≡ is_above (option_map wanted_key bound.now) (seen_key found.now) }
 {
     match bound {
-        Some(bound) => order_found(bound, found).is_lt(),
+        Some(bound) => bound.order(found).is_lt(),
         None => true,
     }
 }
@@ -34,102 +32,73 @@ fn lower<'a>(held: Option<Found<'a>>, found: Found<'a>) -> Found<'a>
     let Some(held) = held else {
         return found;
     };
-    if order_found(&wanted_of(&found), &held).is_lt() {
+    if Wanted::of(&found).order(&held).is_lt() {
         return found;
     }
     held
 }
 
-fn lower_of<'a>(
+fn lower_above<'a>(
     bound: &Option<Wanted>,
     held: Option<Found<'a>>,
-    offer: Option<Offer<'a>>,
+    found: Found<'a>,
 ) -> Option<Found<'a>>
     ensures { option_map seen_key result
-        ≡ lowered (option_map wanted_key bound.now) (option_map seen_key held.entry) (option_map offered offer.entry) }
+        ≡ lower_above (option_map wanted_key bound.now) (option_map seen_key held.entry) (seen_key found.entry) }
 {
-    let Some(offer) = offer else {
-        return held;
-    };
-    if !is_above(bound, &offer.found) {
+    if !is_above(bound, &found) {
         return held;
     }
-    Some(lower(held, offer.found))
+    Some(lower(held, found))
 }
 
-/// A record of the least live key above a bound among those from a place on.
-#[tactic(auto, using(crate::proofs::Searches::least_first, crate::proofs::Searches::least_none))]
-fn least<'a>(
-    non_volatile: bool,
-    bytes: &'a [u8],
-    first: u32,
-    bound: &Option<Wanted>,
-) -> Option<Found<'a>>
-    requires few { length bytes.now ≤ 65536 }
-    requires within { first ≤ length bytes.now }
-    ensures { option_map seen_key result ≡ least_at non_volatile bytes.now (option_map wanted_key bound.now) None first }
+/// A record of the least live key above a bound.
+fn least<'a>(region: &Region<'a>, bound: &Option<Wanted>) -> Option<Found<'a>>
+    ensures { option_map seen_key result ≡ least_from (option_map wanted_key bound.now) None (region_lives region.now) }
 {
     let mut held = None;
-    let mut at = first;
-    'records: while let Some(next) = record_at(bytes, at) {
-        let offer = offer_of(non_volatile, bytes, &next);
-        held = lower_of(bound, held, offer);
-        at = next_place(&next);
+    for found in region.lives() {
+        held = lower_above(bound, held, found);
     }
     held
 }
 
 fn is_shown(runtime: bool, found: &Found) -> bool
-    ensures { result ≡ is_shown runtime (seen_entry found.now) }
+    ensures { result ≡ is_shown runtime (seen_variable found.now) }
 {
-    !(runtime && found.attributes & RUNTIME_ACCESS == 0)
+    !runtime || has(found.attributes, RUNTIME_ACCESS)
 }
 
-/// The record that counts for a key, where callers see it.
-fn shown<'a>(
-    non_volatile: bool,
-    bytes: &'a [u8],
-    first: u32,
-    wanted: &Wanted,
-    runtime: bool,
-) -> Option<Found<'a>>
-    requires few { length bytes.now ≤ 65536 }
-    requires within { first ≤ length bytes.now }
-    ensures entry { (later : Option (Key × Variable))
-        → shown_or runtime (wanted_key wanted.now) (variable_of (chosen (wanted_key wanted.now) (lives_at non_volatile bytes.now first))) later
-        ≡ option_or (option_map seen_entry result) later }
-    ensures counts { IfSome result (λ f. chosen (seen_key f) (lives_at non_volatile bytes.now first) ≡ Some (seen f)) }
+/// The record that counts for a key, where callers see its variable.
+fn shown<'a>(region: &Region<'a>, wanted: &Wanted, runtime: bool) -> Option<Found<'a>>
+    ensures counts { option_map seen result ≡ shown runtime (chosen (wanted_key wanted.now) (region_lives region.now)) }
+    ensures payload { IfSome result (λ f. length f.payload.now ≤ longest_region) }
 {
-    let Some(found) = search(non_volatile, bytes, first, wanted) else {
+    let found = search(region, wanted)?;
+    if !is_shown(runtime, &found) {
         return None;
-    };
-    if is_shown(runtime, &found) {
-        return Some(found);
     }
-    None
+    Some(found)
 }
 
-/// The record of the least key above a bound that callers see, among those from a place on.
+/// The record of the least key above a bound that callers see.
+#[tactic(auto, unfolding(var_types::specs::Region::entry_above, var_types::specs::Region::region_map))]
 pub(crate) fn above<'a>(
-    non_volatile: bool,
-    bytes: &'a [u8],
-    first: u32,
+    region: &Region<'a>,
     bound: &Option<Wanted>,
     runtime: bool,
 ) -> Option<Found<'a>>
-    requires few { length bytes.now ≤ 65536 }
-    requires within { first ≤ length bytes.now }
-    ensures entry { option_map seen_entry result
-        ≡ shown_above (lives_at non_volatile bytes.now first) runtime (option_map wanted_key bound.now) }
-    ensures counts { IfSome result (λ f. chosen (seen_key f) (lives_at non_volatile bytes.now first) ≡ Some (seen f)) }
+    ensures entry { option_map seen_entry result ≡ entry_above region.now runtime (option_map wanted_key bound.now) }
+    ensures counts { IfSome result (λ f. chosen (seen_key f) (region_lives region.now) ≡ Some (seen f)) }
+    ensures payload { IfSome result (λ f. length f.payload.now ≤ longest_region) }
 {
-    let mut low = least(non_volatile, bytes, first, bound);
+    let mut low = least(region, bound);
     'keys: while let Some(next) = low {
-        let wanted = wanted_of(&next);
-        if let Some(found) = shown(non_volatile, bytes, first, &wanted, runtime) {
+        let wanted = Wanted::of(&next);
+        if let Some(found) = shown(region, &wanted, runtime) {
             return Some(found);
         }
-        low = least(non_volatile, bytes, first, &Some(wanted));
+        low = least(region, &Some(wanted));
     }
     None
 }
@@ -140,9 +109,6 @@ pub(crate) fn bound_of<'k>(guid: &Guid, name: &'k [u16]) -> Option<Wanted<'k>>
 {
     match name {
         [] => None,
-        [..] => Some(Wanted {
-            guid: *guid,
-            name: Name::Units(name),
-        }),
+        [..] => Some(Wanted::new(guid, name)),
     }
 }

@@ -1,82 +1,61 @@
 //! The record that counts for a key, in one pass over a region.
-ghost use Rattle.std.specs.Prelude.{◌≡◌, ◌≤◌, None, length};
+ghost use Rattle.std.specs.Prelude.{◌≡◌, ◌≤◌, length, IfSome};
 ghost use Rattle.std.specs.Option.{option_map};
-ghost use Rattle.var_types.proofs.Turns.{turn_of};
-ghost use Rattle.var_types.specs.Key.{key_of};
-ghost use Rattle.var_types.specs.Live.{chosen};
-ghost use Rattle.var_region.specs.Found.{offered, seen};
-ghost use Rattle.var_region.specs.Searched.{lives_at, sought, turned};
+ghost use Rattle.var_types.specs.Chosen.{chosen, chosen_after, counting, is_settled};
+ghost use Rattle.var_types.specs.Layout.{longest_region};
+ghost use Rattle.var_types.specs.Region.{region_lives};
+ghost use Rattle.var_region.specs.Found.{seen};
 ghost use Rattle.var_region.specs.Wanted.{wanted_key};
 
-use crate::found::{Found, Offer, offer_of};
-use crate::records::{next_place, record_at};
-use crate::wanted::{Name, Wanted, order_found};
-use var_types::Guid;
+use crate::Region;
+use crate::found::Found;
+use crate::wanted::Wanted;
+use var_types::RecordState;
 
-/// A turn of a search: it is done, or goes on with the record in transition that it holds.
-#[derive(Clone, Copy, Debug)]
-pub(crate) enum Turn<'a> {
-    Done(Found<'a>),
-    Next(Option<Found<'a>>),
-}
-
-fn turn_of<'a>(wanted: &Wanted, held: Option<Found<'a>>, offer: Option<Offer<'a>>) -> Turn<'a>
-    ensures { turned result ≡ turn_of (wanted_key wanted.now) (option_map seen held.entry) (option_map offered offer.entry) }
+fn is_settled(held: &Option<Found>) -> bool
+    ensures { result ≡ is_settled (option_map seen held.now) }
 {
-    let Some(offer) = offer else {
-        return Turn::Next(held);
-    };
-    if order_found(wanted, &offer.found).is_ne() {
-        return Turn::Next(held);
-    }
-    if offer.added {
-        Turn::Done(offer.found)
-    } else {
-        Turn::Next(Some(offer.found))
+    match held {
+        Some(held) => held.state == RecordState::Added,
+        None => false,
     }
 }
 
-/// The record that counts for a key among those from a place on.
-#[tactic(auto, using(crate::proofs::Searches::sought_first, crate::proofs::Searches::sought_none))]
-pub(crate) fn search<'a>(
-    non_volatile: bool,
-    bytes: &'a [u8],
-    first: u32,
-    wanted: &Wanted,
-) -> Option<Found<'a>>
-    requires few { length bytes.now ≤ 65536 }
-    requires within { first ≤ length bytes.now }
-    ensures { option_map seen result ≡ sought non_volatile bytes.now (wanted_key wanted.now) None first }
+/// Of the record held for a key, where there is one, and a later one of that key the one that counts so far: an ADDED one that is held, else
+/// the later one.
+pub fn counting<'a>(held: Option<Found<'a>>, later: Found<'a>) -> Found<'a>
+    ensures { seen result ≡ counting (option_map seen held.entry) (seen later.entry) }
+{
+    match held {
+        Some(held) => match held.state {
+            RecordState::Added => held,
+            RecordState::InDeletedTransition => later,
+        },
+        None => later,
+    }
+}
+
+fn chosen_after<'a>(wanted: &Wanted, held: Option<Found<'a>>, later: Found<'a>) -> Option<Found<'a>>
+    ensures { option_map seen result ≡ chosen_after (wanted_key wanted.now) (option_map seen held.entry) (seen later.entry) }
+{
+    if wanted.order(&later).is_ne() {
+        return held;
+    }
+    Some(counting(held, later))
+}
+
+/// The record that counts for a key; the search ends at the first ADDED one.
+#[tactic(auto, using(crate::proofs::LiveRecords::small_found, var_types::proofs::Chosen::chosen_in_one_pass, var_types::proofs::Chosen::settled_stays))]
+pub(crate) fn search<'a>(region: &Region<'a>, wanted: &Wanted) -> Option<Found<'a>>
+    ensures counts { option_map seen result ≡ chosen (wanted_key wanted.now) (region_lives region.now) }
+    ensures payload { IfSome result (λ f. length f.payload.now ≤ longest_region) }
 {
     let mut held = None;
-    let mut at = first;
-    'records: while let Some(next) = record_at(bytes, at) {
-        let offer = offer_of(non_volatile, bytes, &next);
-        held = match turn_of(wanted, held, offer) {
-            Turn::Done(found) => return Some(found),
-            Turn::Next(held) => held,
-        };
-        at = next_place(&next);
+    for found in region.lives() {
+        held = chosen_after(wanted, held, found);
+        if is_settled(&held) {
+            return held;
+        }
     }
     held
-}
-
-/// The record that counts for a GUID and a name among those from a place on.
-#[tactic(auto, using(crate::proofs::Searches::sought_is))]
-pub(crate) fn find_from<'a>(
-    non_volatile: bool,
-    bytes: &'a [u8],
-    first: u32,
-    guid: &Guid,
-    name: &[u16],
-) -> Option<Found<'a>>
-    requires few { length bytes.now ≤ 65536 }
-    requires within { first ≤ length bytes.now }
-    ensures { option_map seen result ≡ chosen (key_of guid.now name.now) (lives_at non_volatile bytes.now first) }
-{
-    let wanted = Wanted {
-        guid: *guid,
-        name: Name::Units(name),
-    };
-    search(non_volatile, bytes, first, &wanted)
 }

@@ -1,32 +1,27 @@
 //! What a record holds: which variable of which key, lent from the region's bytes.
 ghost use Rattle.std.specs.Prelude.{◌≡◌, ◌+◌, ◌≤◌, true, length};
 ghost use Rattle.std.specs.Option.{option_map};
-ghost use Rattle.var_types.specs.Live.{data_bytes, live_named, live_of, live_standing, name_bytes, standing};
+ghost use Rattle.var_types.specs.Live.{data_bytes, live_in_state, live_named, live_of, name_bytes};
 ghost use Rattle.var_types.specs.Record.{Authenticated, whole_size};
-ghost use Rattle.var_region.specs.Found.{offered, seen};
+ghost use Rattle.var_types.specs.RecordState.{record_state};
+ghost use Rattle.var_region.specs.Found.{seen};
 ghost use Rattle.var_region.specs.Names.{lent_units};
 
-use crate::names::name_of;
+use crate::name_bytes::name_of;
 use var_header::HEADER_BYTES;
-use var_types::attributes::NON_VOLATILE;
-use var_types::{Guid, Record, Stamp};
+use var_types::attributes::{NON_VOLATILE, has};
+use var_types::{Guid, Record, RecordState, Stamp};
 
-/// A record that is a variable's: where it stands, and what it holds, lent from the region's bytes; the name is without its NUL.
+/// A record that is a variable's: its offset, its state, and what it holds, lent from the region's bytes; the name is without its NUL.
 #[derive(Clone, Copy, Debug)]
 pub struct Found<'a> {
     pub at: u32,
+    pub state: RecordState,
     pub guid: Guid,
     pub attributes: u32,
     pub stamp: Stamp,
     pub name: &'a [u8],
     pub payload: &'a [u8],
-}
-
-/// What a record offers to a search: a variable's record, and whether it is ADDED; else it is in transition to deleted.
-#[derive(Clone, Copy, Debug)]
-pub struct Offer<'a> {
-    pub added: bool,
-    pub found: Found<'a>,
 }
 
 fn name_bytes<'a>(bytes: &'a [u8], held: &Record) -> &'a [u8]
@@ -46,65 +41,52 @@ fn data_bytes<'a>(bytes: &'a [u8], held: &Record) -> &'a [u8]
     &bytes[from..][..held.header.data_size as usize]
 }
 
-fn offer_named<'a>(
+fn found_named<'a>(
     bytes: &'a [u8],
     held: &Record,
-    added: bool,
+    state: RecordState,
     name: Option<&'a [u8]>,
-) -> Option<Offer<'a>>
+) -> Option<Found<'a>>
     requires { held.now.at + whole_size Authenticated held.now.header ≤ length bytes.now }
-    ensures { option_map offered result
-        ≡ live_named Authenticated bytes.now held.now added (option_map lent_units name.entry) }
+    ensures { option_map seen result ≡ live_named Authenticated bytes.now held.now state (option_map lent_units name.entry) }
 {
     let name = name?;
-    Some(Offer {
-        added,
-        found: Found {
-            at: held.at,
-            guid: Guid {
-                bytes: held.header.guid,
-            },
-            attributes: held.header.attributes,
-            stamp: Stamp {
-                bytes: held.header.stamp,
-            },
-            name,
-            payload: data_bytes(bytes, held),
+    Some(Found {
+        at: held.at,
+        state,
+        guid: Guid {
+            bytes: held.header.vendor_guid,
         },
+        attributes: held.header.attributes,
+        stamp: Stamp {
+            bytes: held.header.time_stamp,
+        },
+        name,
+        payload: data_bytes(bytes, held),
     })
 }
 
-fn standing(state: u8) -> Option<bool>
-    ensures { result ≡ standing state }
-{
-    match state {
-        0x3F => Some(true),
-        0x3E => Some(false),
-        _ => None,
-    }
-}
-
-fn offer_standing<'a>(bytes: &'a [u8], held: &Record) -> Option<Offer<'a>>
+fn found_in_state<'a>(bytes: &'a [u8], held: &Record) -> Option<Found<'a>>
     requires { held.now.at + whole_size Authenticated held.now.header ≤ length bytes.now }
-    ensures { option_map offered result
-        ≡ live_standing Authenticated bytes.now held.now (standing held.now.header.state) }
+    ensures { option_map seen result
+        ≡ live_in_state Authenticated bytes.now held.now (record_state held.now.header.state) }
 {
-    let added = standing(held.header.state)?;
+    let state = RecordState::of(held.header.state)?;
     let name = name_of(name_bytes(bytes, held));
-    offer_named(bytes, held, added, name)
+    found_named(bytes, held, state, name)
 }
 
 /// What a record holds, if it is a variable's, in a store that is the non-volatile one or not.
 #[tactic(auto, unfolding(var_types::specs::Live::live_of))]
-pub(crate) fn offer_of<'a>(non_volatile: bool, bytes: &'a [u8], held: &Record) -> Option<Offer<'a>>
+pub(crate) fn found_of<'a>(non_volatile: bool, bytes: &'a [u8], held: &Record) -> Option<Found<'a>>
     requires { held.now.whole ≡ true → held.now.at + whole_size Authenticated held.now.header ≤ length bytes.now }
-    ensures { option_map offered result ≡ live_of Authenticated non_volatile bytes.now held.now }
+    ensures { option_map seen result ≡ live_of Authenticated non_volatile bytes.now held.now }
 {
     if !held.whole {
         return None;
     }
-    if non_volatile && held.header.attributes & NON_VOLATILE == 0 {
+    if non_volatile && !has(held.header.attributes, NON_VOLATILE) {
         return None;
     }
-    offer_standing(bytes, held)
+    found_in_state(bytes, held)
 }

@@ -1,14 +1,13 @@
-//! A store's region as a value: its records one after the other, and the place behind them.
+//! A store's region as a value: its records one after the other, which of them are variables', and the offset behind them.
 #![tactic(auto)]
 
 mod above;
 mod find;
-#[cfg(test)]
-mod find_tests;
 mod found;
 mod laws;
 mod lives;
-mod names;
+mod name;
+mod name_bytes;
 mod records;
 mod region;
 mod tail;
@@ -17,8 +16,9 @@ mod tests;
 mod walk;
 mod wanted;
 
-pub use found::{Found, Offer};
-pub use laws::erased_regions_are_empty;
+pub use find::counting;
+pub use found::Found;
+pub use laws::{erased_regions_are_empty, what_counts_is_found_in_one_pass};
 pub use lives::Lives;
 pub use region::Region;
 pub use tail::Tail;

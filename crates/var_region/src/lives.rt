@@ -1,29 +1,29 @@
 ghost use Rattle.std.specs.Prelude.{◌≤◌, length};
 ghost use Rattle.std.specs.Iterator.{YieldsFirstBy, item_count};
-ghost use Rattle.var_region.specs.Found.{offered};
-ghost use Rattle.var_region.specs.Searched.{lives_at};
+ghost use Rattle.var_types.specs.Layout.{longest_region};
+ghost use Rattle.var_region.specs.Found.{seen};
+ghost use Rattle.var_region.specs.Lives.{lives_at};
 
-use crate::Offer;
-use crate::found::offer_of;
-use crate::records::{next_place, record_at};
+use crate::found::{Found, found_of};
+use crate::records::{next_offset, record_at};
 use std::marker::Model;
 
-/// What the next record from a place on that is a variable's offers; the place is then behind that record.
-#[tactic(auto, using(crate::proofs::Searches::lives_first, crate::proofs::Searches::lives_none))]
-fn next_offer<'a>(non_volatile: bool, bytes: &'a [u8], at: &mut u32) -> Option<Offer<'a>>
-    requires { length bytes.now ≤ 65536 }
-    ensures { YieldsFirstBy offered (lives_at non_volatile bytes.now) at.old result at.new }
+/// The next record from an offset on that is a variable's; the offset is then behind that record.
+#[tactic(auto, using(crate::proofs::LiveRecords::lives_first, crate::proofs::LiveRecords::lives_none))]
+fn next_live<'a>(non_volatile: bool, bytes: &'a [u8], at: &mut u32) -> Option<Found<'a>>
+    requires { length bytes.now ≤ longest_region }
+    ensures { YieldsFirstBy seen (lives_at non_volatile bytes.now) at.old result at.new }
 {
     'records: while let Some(record) = record_at(bytes, *at) {
-        *at = next_place(&record);
-        if let Some(offer) = offer_of(non_volatile, bytes, &record) {
-            return Some(offer);
+        *at = next_offset(&record);
+        if let Some(found) = found_of(non_volatile, bytes, &record) {
+            return Some(found);
         }
     }
     None
 }
 
-/// A walk over a region's records that are variables', each with whether it is ADDED, seen as those that are left.
+/// A walk over a region's records that are variables', seen as those that are left.
 #[derive(Debug, Drop)]
 pub struct Lives<'a> {
     pub(crate) bytes: &'a [u8],
@@ -32,25 +32,26 @@ pub struct Lives<'a> {
 }
 
 impl<'a> Model for Lives<'a> {
-    ghost use Rattle.std.specs.Prelude.{Bool, List, length, ◌≤◌};
+    ghost use Rattle.std.specs.Prelude.{List, length, ◌≤◌};
+    ghost use Rattle.var_types.specs.Layout.{longest_region};
     ghost use Rattle.var_types.specs.Live.{Live};
-    ghost use Rattle.var_region.specs.Searched.{lives_at};
+    ghost use Rattle.var_region.specs.Lives.{lives_at};
 
-    ghost Value = { List (Bool × Live) };
+    ghost Value = { List Live };
 
-    ghost view = { λ w. lives_at w.non_volatile w.bytes.now w.at };
+    ghost view = { λ l. lives_at l.non_volatile l.bytes.now l.at };
 
-    ghost invariant = { λ w. length w.bytes.now ≤ 65536 };
+    ghost invariant = { λ l. length l.bytes.now ≤ longest_region };
 }
 
 impl<'a> Iterator for Lives<'a> {
-    type Item = Offer<'a>;
+    type Item = Found<'a>;
 
-    ghost next_gives = { YieldsFirstBy offered (λ left. left) };
+    ghost next_gives = { YieldsFirstBy seen (λ left. left) };
 
     ghost remaining = { item_count (λ left. left) };
 
-    fn next(&mut self) -> Option<Offer<'a>> {
-        next_offer(self.non_volatile, self.bytes, &mut self.at)
+    fn next(&mut self) -> Option<Found<'a>> {
+        next_live(self.non_volatile, self.bytes, &mut self.at)
     }
 }

@@ -1,9 +1,10 @@
 ghost use Rattle.std.specs.Prelude.{◌≡◌, ◌≤◌, ◌<◌, ◌^◌, length, IfSome};
-ghost use Rattle.var_types.specs.Record.{Authenticated, is_bare, next_place, record_at, whole_size};
+ghost use Rattle.var_types.specs.Layout.{longest_region};
+ghost use Rattle.var_types.specs.Record.{Authenticated, is_bare, next_offset, record_at, whole_size};
 ghost use Rattle.var_region.specs.Within.{IsWithin};
 
 use var_header::{HEADER_BYTES, Header, read_header};
-use var_types::Record;
+use var_types::{Record, align4};
 
 fn is_bare(header: &Header) -> bool
     ensures { result ≡ is_bare header.now }
@@ -20,10 +21,10 @@ fn whole_size(header: &Header) -> u64
     HEADER_BYTES as u64 + u64::from(header.name_size) + u64::from(header.data_size)
 }
 
-/// The record at a place of a region's bytes, if one stands there.
+/// The record at an offset of a region's bytes, if one stands there.
 #[tactic(auto, unfolding(var_types::specs::Record::record_at, var_header::specs::Header::header_read))]
-pub fn record_at(bytes: &[u8], at: u32) -> Option<Record>
-    requires { length bytes.now ≤ 65536 }
+pub(crate) fn record_at(bytes: &[u8], at: u32) -> Option<Record>
+    requires { length bytes.now ≤ longest_region }
     ensures is { result ≡ record_at Authenticated bytes.now at }
     ensures within { IfSome result (λ r. IsWithin (length bytes.now) at r) }
 {
@@ -48,15 +49,15 @@ pub fn record_at(bytes: &[u8], at: u32) -> Option<Record>
     })
 }
 
-/// The place behind a record, where the next one stands.
-pub fn next_place(found: &Record) -> u32
-    requires { next_place Authenticated found.now < 2 ^ 32 }
-    ensures { result ≡ next_place Authenticated found.now }
+/// The offset behind a record, where the next one stands.
+pub(crate) fn next_offset(found: &Record) -> u32
+    requires { next_offset Authenticated found.now < 2 ^ 32 }
+    ensures { result ≡ next_offset Authenticated found.now }
 {
     let size = if found.whole {
         whole_size(&found.header)
     } else {
         HEADER_BYTES as u64
     };
-    ((u64::from(found.at) + size + 3) / 4 * 4) as u32
+    align4(u64::from(found.at) + size) as u32
 }

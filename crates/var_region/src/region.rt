@@ -2,23 +2,25 @@ ghost use Rattle.std.specs.Prelude.{◌≡◌, ◌+◌, ◌≤◌, Some, IfSome,
 ghost use Rattle.std.specs.BTreeMap.{is_at};
 ghost use Rattle.std.specs.Map.{lookup};
 ghost use Rattle.std.specs.Option.{option_map};
+ghost use Rattle.var_types.specs.Chosen.{chosen};
 ghost use Rattle.var_types.specs.Key.{key_cmp, key_of};
-ghost use Rattle.var_types.specs.Live.{chosen};
+ghost use Rattle.var_types.specs.Layout.{longest_region};
 ghost use Rattle.var_types.specs.Record.{Authenticated};
-ghost use Rattle.var_types.specs.Region.{area_lives, area_records, entry_above, is_tail_clean, region_map, tail_place};
+ghost use Rattle.var_types.specs.Region.{entry_above, is_tail_clean, region_lives, region_map, region_records, tail_offset};
 ghost use Rattle.var_region.specs.Found.{seen, seen_entry, seen_key, seen_variable};
 ghost use Rattle.var_region.specs.Wanted.{bound_of};
 
 use crate::above::{above, bound_of};
-use crate::find::find_from;
+use crate::find::search;
 use crate::found::Found;
 use crate::lives::Lives;
 use crate::tail::{Tail, tail_of};
 use crate::walk::Walk;
+use crate::wanted::Wanted;
 use std::marker::Model;
 use var_types::Guid;
 
-/// A store's region: its bytes, the place of its first record, and whether it is the non-volatile store's.
+/// A store's region: its bytes, the offset of its first record, and whether it is the non-volatile store's.
 #[derive(Debug, Drop)]
 pub struct Region<'a> {
     bytes: &'a [u8],
@@ -29,20 +31,21 @@ pub struct Region<'a> {
 impl<'a> Model for Region<'a> {
     ghost use Rattle.std.specs.Prelude.{length, ◌≤◌};
     ghost use Rattle.var_types.specs.Record.{Authenticated};
-    ghost use Rattle.var_types.specs.Region.{Area};
+    ghost use Rattle.var_types.specs.Layout.{longest_region};
+    ghost use Rattle.var_types.specs.Region.{Region};
 
-    ghost Value = { Area };
+    ghost Value = { Region };
 
     ghost view = { λ r. record { form = Authenticated; bytes = r.bytes.now; first = r.first; non_volatile = r.non_volatile } };
 
-    ghost invariant = { λ r. (r.first ≤ length r.bytes.now) × (length r.bytes.now ≤ 65536) };
+    ghost invariant = { λ r. (r.first ≤ length r.bytes.now) × (length r.bytes.now ≤ longest_region) };
 }
 
 impl<'a> Region<'a> {
-    /// The region that some bytes are, whose records begin at a place.
+    /// The region that some bytes are, whose records begin at an offset.
     pub fn over(bytes: &'a [u8], first: u32, non_volatile: bool) -> Region<'a>
         requires first { first ≤ length bytes.now }
-        requires few { length bytes.now ≤ 65536 }
+        requires few { length bytes.now ≤ longest_region }
         ensures { result ≡ record { form = Authenticated; bytes = bytes.now; first = first; non_volatile = non_volatile } }
     {
         Region {
@@ -53,9 +56,9 @@ impl<'a> Region<'a> {
     }
 
     /// A walk over the records.
-    #[tactic(auto, unfolding(var_types::specs::Region::area_records))]
+    #[tactic(auto, unfolding(var_types::specs::Region::region_records))]
     pub fn walk(&self) -> Walk<'a>
-        ensures { result ≡ area_records self.now }
+        ensures { result ≡ region_records self.now }
     {
         Walk {
             bytes: self.bytes,
@@ -63,10 +66,11 @@ impl<'a> Region<'a> {
         }
     }
 
-    /// A walk over the records that are variables', ADDED or in transition.
-    #[tactic(auto, unfolding(var_types::specs::Region::area_records, var_types::specs::Region::area_lives, crate::specs::Searched::lives_at))]
+    /// A walk over the records that are variables', ADDED or in transition to deleted.
+    #[tactic(auto, unfolding(var_types::specs::Region::region_records, var_types::specs::Region::region_lives, crate::specs::Lives::lives_at))]
     pub fn lives(&self) -> Lives<'a>
-        ensures { result ≡ area_lives self.now }
+        ensures is { result ≡ region_lives self.now }
+        ensures few { length self.now.bytes ≤ longest_region }
     {
         Lives {
             bytes: self.bytes,
@@ -75,10 +79,10 @@ impl<'a> Region<'a> {
         }
     }
 
-    /// The place behind the records, at most 3 past the end, and whether all bytes from there on are erased.
-    #[tactic(auto, unfolding(var_types::specs::Region::area_records, var_types::specs::Region::tail_place, var_types::specs::Region::is_tail_clean))]
+    /// The offset behind the records, at most 3 past the end, and whether all bytes from there on are erased.
+    #[tactic(auto, unfolding(var_types::specs::Region::region_records, var_types::specs::Region::tail_offset, var_types::specs::Region::is_tail_clean))]
     pub fn tail(&self) -> Tail
-        ensures place { result.at ≡ tail_place self.now }
+        ensures offset { result.at ≡ tail_offset self.now }
         ensures clean { result.clean ≡ is_tail_clean self.now }
         ensures limit { result.at ≤ length self.now.bytes + 3 }
     {
@@ -86,21 +90,21 @@ impl<'a> Region<'a> {
     }
 
     /// The record that counts for a key: its first ADDED one, else its last in transition to deleted.
-    #[tactic(auto, unfolding(var_types::specs::Region::area_records, var_types::specs::Region::area_lives, crate::specs::Searched::lives_at), using(crate::proofs::Searches::found_in_map))]
+    #[tactic(auto, using(crate::proofs::LiveRecords::found_in_map))]
     pub fn find(&self, guid: &Guid, name: &[u16]) -> Option<Found<'a>>
-        ensures counts { option_map seen result ≡ chosen (key_of guid.now name.now) (area_lives self.now) }
+        ensures counts { option_map seen result ≡ chosen (key_of guid.now name.now) (region_lives self.now) }
         ensures variable { option_map seen_variable result ≡ lookup (is_at (key_cmp (key_of guid.now name.now))) (region_map self.now) }
+        ensures payload { IfSome result (λ f. length f.payload.now ≤ longest_region) }
     {
-        find_from(self.non_volatile, self.bytes, self.first, guid, name)
+        search(self, &Wanted::new(guid, name))
     }
 
     /// The record that counts for the least key that callers see: strictly above a key, or of all where the name is empty.
-    #[tactic(auto, unfolding(var_types::specs::Region::area_records, var_types::specs::Region::area_lives, var_types::specs::Region::entry_above, var_types::specs::Region::region_map, crate::specs::Searched::lives_at))]
     pub fn above(&self, guid: &Guid, name: &[u16], runtime: bool) -> Option<Found<'a>>
         ensures entry { option_map seen_entry result ≡ entry_above self.now runtime (bound_of guid.now name.now) }
-        ensures counts { IfSome result (λ f. chosen (seen_key f) (area_lives self.now) ≡ Some (seen f)) }
+        ensures counts { IfSome result (λ f. chosen (seen_key f) (region_lives self.now) ≡ Some (seen f)) }
+        ensures payload { IfSome result (λ f. length f.payload.now ≤ longest_region) }
     {
-        let bound = bound_of(guid, name);
-        above(self.non_volatile, self.bytes, self.first, &bound, runtime)
+        above(self, &bound_of(guid, name), runtime)
     }
 }

@@ -1,7 +1,8 @@
 ghost use Rattle.std.specs.Prelude.{◌≡◌, ◌+◌, ◌≤◌, length};
+ghost use Rattle.var_types.specs.Layout.{longest_region};
 ghost use Rattle.var_types.specs.Record.{Authenticated, is_clean, records, tail_from};
 
-use crate::records::{next_place, record_at};
+use crate::records::{next_offset, record_at};
 
 /// Where a region's records end, and whether all bytes from there on are erased.
 #[derive(Clone, Copy, Debug, PartialEq, Eq)]
@@ -11,15 +12,15 @@ pub struct Tail {
 }
 
 #[tactic(auto, using(var_types::proofs::Records::records_first, var_types::proofs::Records::records_none))]
-fn tail_place(bytes: &[u8], first: u32) -> u32
+fn tail_offset(bytes: &[u8], first: u32) -> u32
     requires first { first ≤ length bytes.now }
-    requires few { length bytes.now ≤ 65536 }
-    ensures place { result ≡ tail_from Authenticated first (records Authenticated bytes.now first) }
+    requires few { length bytes.now ≤ longest_region }
+    ensures offset { result ≡ tail_from Authenticated first (records Authenticated bytes.now first) }
     ensures limit { result ≤ length bytes.now + 3 }
 {
     let mut at = first;
     'records: while let Some(found) = record_at(bytes, at) {
-        at = next_place(&found);
+        at = next_offset(&found);
     }
     at
 }
@@ -30,7 +31,7 @@ fn is_erased(bytes: &[u8]) -> bool
     bytes.iter().all(|byte| *byte == 0xFF)
 }
 
-// The place may stand past the end, where nothing is left.
+// The offset may stand past the end, where nothing is left.
 #[tactic(auto, using(std::proofs::lemmas::List::take_rest, std::proofs::lemmas::List::drop_all))]
 fn is_clean(bytes: &[u8], at: u32) -> bool
     ensures { result ≡ is_clean bytes.now at }
@@ -42,14 +43,14 @@ fn is_clean(bytes: &[u8], at: u32) -> bool
     is_erased(&bytes[at..])
 }
 
-pub fn tail_of(bytes: &[u8], first: u32) -> Tail
+pub(crate) fn tail_of(bytes: &[u8], first: u32) -> Tail
     requires first { first ≤ length bytes.now }
-    requires few { length bytes.now ≤ 65536 }
-    ensures place { result.at ≡ tail_from Authenticated first (records Authenticated bytes.now first) }
+    requires few { length bytes.now ≤ longest_region }
+    ensures offset { result.at ≡ tail_from Authenticated first (records Authenticated bytes.now first) }
     ensures clean { result.clean ≡ is_clean bytes.now result.at }
     ensures limit { result.at ≤ length bytes.now + 3 }
 {
-    let at = tail_place(bytes, first);
+    let at = tail_offset(bytes, first);
     Tail {
         at,
         clean: is_clean(bytes, at),

@@ -2,7 +2,7 @@ ghost use Rattle.std.specs.Prelude.{◌≡◌};
 ghost use Rattle.std.specs.Iterator.{YieldsFirst, item_count};
 
 use crate::Record;
-use crate::records::{next_place, record_at};
+use crate::records::{next_offset, record_at};
 use std::marker::Model;
 
 /// A walk over a region's records, one after the other, seen as the records that are left.
@@ -15,13 +15,14 @@ pub struct Walk<'a> {
 impl<'a> Model for Walk<'a> {
     ghost use Rattle.std.specs.Prelude.{List, length, ◌≤◌};
     ghost use Rattle.var_types.specs.declared.record.Record.{Record};
+    ghost use Rattle.var_types.specs.Layout.{longest_region};
     ghost use Rattle.var_types.specs.Record.{Authenticated, records};
 
     ghost Value = { List Record };
 
     ghost view = { λ w. records Authenticated w.bytes.now w.at };
 
-    ghost invariant = { λ w. length w.bytes.now ≤ 65536 };
+    ghost invariant = { λ w. length w.bytes.now ≤ longest_region };
 }
 
 impl<'a> Iterator for Walk<'a> {
@@ -34,7 +35,7 @@ impl<'a> Iterator for Walk<'a> {
     #[tactic(auto, using(var_types::proofs::Records::records_first, var_types::proofs::Records::records_none))]
     fn next(&mut self) -> Option<Record> {
         let found = record_at(self.bytes, self.at)?;
-        self.at = next_place(&found);
+        self.at = next_offset(&found);
         Some(found)
     }
 }

@@ -24,7 +24,7 @@ pub all_seam : {K X : Type 0} (P : K → Type 0) (pre : List (K × X)) (e : K ×
 all_seam P [] e rest all = all.0
 all_seam P (p ∷ pre) e rest all = all_seam P pre e rest all.1
 
--- what holds of each key holds of those behind a place
+-- what holds of each key holds of those behind some
 pub all_behind : {K X : Type 0} (P : K → Type 0) (pre rest : List (K × X)) → AllByRecursion P (keys_of (pre ++ rest)) → AllByRecursion P (keys_of rest)
 all_behind P [] rest all = all
 all_behind P (p ∷ pre) rest all = all_behind P pre rest all.1

@@ -11,6 +11,7 @@ use Rattle.var_types.proofs.Orders.{sorted-insert_entry, sorted-remove_entry}
 use Rattle.var_types.specs.Attributes.{has_access, store_of}
 use Rattle.var_types.specs.History.{Entry, run}
 use Rattle.var_types.specs.Key.{key_cmp}
+use Rattle.var_types.specs.Layout.{largest_record}
 use Rattle.var_types.specs.Name.{name_check}
 use Rattle.var_types.specs.Room.{record_size, room_limit, room_needed}
 use Rattle.var_types.specs.Set.{deletes, made_by, same_variable, set_change, set_key, set_named, set_put, set_removed, set_step, set_stored}
@@ -73,7 +74,7 @@ module _ (state : State) (sound : IsSound state) where
     unfolding set_named
     IsSound-named (Err fault) well = sound
     IsSound-named (Ok u) well =
-        either (nat_lt 33792 (record_size call.name call.bytes)) _ _ sound
+        either (nat_lt largest_record (record_size call.name call.bytes)) _ _ sound
         (IsSound-stored well (stored_at state (set_key call)))
 
   -- any call leaves a sound state

@@ -2,6 +2,7 @@
 use Rattle.std.proofs.Common.{◌≡◌, ◌+◌, Bool, true, false, List, refl}
 use Rattle.std.specs.Prelude.{if◌then◌else◌, nat_le, nat_lt, not, ◌==◌, ◌&&◌, Option, Some, None, Result, Ok, Err}
 use Rattle.var_types.specs.Attributes.{has_access, store_of}
+use Rattle.var_types.specs.Layout.{largest_record}
 use Rattle.var_types.specs.Name.{name_check}
 use Rattle.var_types.specs.Room.{record_size, room_limit, room_needed}
 use Rattle.var_types.specs.Set.{deletes, made_by, refused, same_variable, set_change, set_key, set_named, set_put, set_step, set_stored}
@@ -12,7 +13,7 @@ use Rattle.var_types.specs.declared.call.Call.TheVariants.{Get, Next, Set}
 use Rattle.var_types.specs.declared.call.SetCall.{SetCall}
 use Rattle.var_types.specs.declared.key.Key.{Key}
 use Rattle.var_types.specs.declared.name.NameFault.{NameFault}
-use Rattle.var_types.specs.declared.reason.SetReason.{SetReason}
+use Rattle.var_types.specs.declared.set_reason.SetReason.{SetReason}
 use Rattle.var_types.specs.declared.reply.Reply.{Reply}
 use Rattle.var_types.specs.declared.reply.Reply.TheVariants.{Get as GetReplied, Next as NextReplied, Set as SetReplied}
 use Rattle.var_types.specs.declared.reply.SetReply.{SetReply}
@@ -63,7 +64,7 @@ IsStep-named : (state : State) (call : SetCall) (named : Result (Unit {0}) NameF
 unfolding set_named
 IsStep-named state call (Err fault) = IsStep-refused state _
 IsStep-named state call (Ok u) =
-    either state (nat_lt 33792 (record_size call.name call.bytes)) _ _ (IsStep-refused state _)
+    either state (nat_lt largest_record (record_size call.name call.bytes)) _ _ (IsStep-refused state _)
     (IsStep-stored state call (stored_at state (set_key call)))
 
 -- what any call does to the state
@@ -73,11 +74,13 @@ IsStep-step state (Get call) = record { counted = λ h. cc; kept = λ _. refl }
 IsStep-step state (Next call) = record { counted = λ h. cc; kept = λ _. refl }
 IsStep-step state (Set call) = IsStep-named state call (name_check call.name)
 
--- a change doesn't lack memory
-pub memory_from_change : (reply : Reply) → is_change reply ≡ true → lacks_memory reply ≡ false
-memory_from_change (GetReplied reply) h = cc
-memory_from_change (NextReplied reply) h = cc
-memory_from_change (SetReplied set.OutOfMemory) h = cc
-memory_from_change (SetReplied set.Same) h = refl
-memory_from_change (SetReplied (set.Refused reason)) h = refl
-memory_from_change (SetReplied set.Ok) h = refl
+-- a change's call was not out of memory
+pub memory_from_change : (call : Call) (reply : Reply) → is_change reply ≡ true → lacks_memory call reply ≡ false
+memory_from_change (Get call) (SetReplied set.Ok) h = refl
+memory_from_change (Next call) (SetReplied set.Ok) h = refl
+memory_from_change (Set call) (SetReplied set.Ok) h = refl
+memory_from_change call (SetReplied set.Same) h = cc
+memory_from_change call (SetReplied (set.Refused reason)) h = cc
+memory_from_change call (SetReplied set.OutOfMemory) h = cc
+memory_from_change call (GetReplied reply) h = cc
+memory_from_change call (NextReplied reply) h = cc

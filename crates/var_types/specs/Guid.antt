@@ -1,12 +1,13 @@
-use Rattle.std.specs.Prelude.{◌≡◌, ℕ, ◌<◌, List, length, Option, Some, None, Result, Ok, Err, All}
+use Rattle.std.specs.Prelude.{◌≡◌, ℕ, List, length, Option, Some, None, Result, Ok, Err}
 use Rattle.uuid.specs.Parts.{swap_fields}
 use Rattle.uuid.specs.Text.{parsed, hyphenated_text, lower}
 use Rattle.var_types.specs.declared.guid.Guid.{Guid}
 use Rattle.var_types.specs.declared.guid.NotAGuid.{NotAGuid}
+use Rattle.var_types.specs.Values.{AreBytes}
 
 -- a GUID has sixteen bytes
 abbrev pub IsGuid : Guid → Type 0
-IsGuid guid = (length guid.bytes ≡ 16) × All (λ b. b < 256) guid.bytes
+IsGuid guid = (length guid.bytes ≡ 16) × AreBytes guid.bytes
 
 -- the GUID whose first three fields are stored little-endian, where a text was read
 abbrev pub stored_guid : Option (List ℕ) → Result Guid NotAGuid

@@ -21,9 +21,9 @@ abbrev pub after : State → List Entry → ℕ → State
 after state history k = run state (take k history)
 
 -- the reply to a processor's call is right at a place of a history: it is the one-thread service's there, and a change is the history's
--- entry there; want of memory is right anywhere, as no change (this project's own)
+-- entry there; that the call was out of memory is right anywhere, as no change (this project's own)
 pub record IsRightAt (state : State) (history : List Entry) (place processor index : ℕ) (call : Call) (reply : Reply) : Type 0 where
   pub in_history : place ≤ length history
-  pub same_reply : lacks_memory reply ≡ false → reply ≡ (step (after state history place) call).0
+  pub same_reply : lacks_memory call reply ≡ false → reply ≡ (step (after state history place) call).0
   pub one_entry : is_change reply ≡ true
       → slice_get history place ≡ Some (record { number = place; processor = processor; index = index; call = call })

@@ -4,7 +4,7 @@ use Rattle.var_types.specs.declared.key.Key.{Key}
 use Rattle.var_types.specs.declared.variable.Variable.{Variable}
 use Rattle.var_types.specs.Layout.{headers_size, volume_size}
 use Rattle.var_types.specs.Record.{Authenticated}
-use Rattle.var_types.specs.Region.{Area, region_map}
+use Rattle.var_types.specs.Region.{Region, region_map}
 
 -- the part of an image that holds its non-volatile variables: its variable volume (OVMF's variable stores of 128 KiB)
 abbrev pub content : List ℕ → List ℕ
@@ -12,9 +12,9 @@ content image = take volume_size image
 
 -- the region of that part: authenticated records behind the headers of volume and store (PI 1.8 volume 3, 3.2.1; EDK II,
 -- VARIABLE_STORE_HEADER)
-abbrev pub content_area : List ℕ → Area
-content_area image = record { form = Authenticated; bytes = content image; first = headers_size; non_volatile = true }
+abbrev pub content_region : List ℕ → Region
+content_region image = record { form = Authenticated; bytes = content image; first = headers_size; non_volatile = true }
 
 -- the non-volatile variables that an image keeps, in key order
 unfoldable pub kept : List ℕ → List (Key × Variable)
-kept image = region_map (content_area image)
+kept image = region_map (content_region image)

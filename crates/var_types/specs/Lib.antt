@@ -1,4 +1,6 @@
 pub mod Layout
+pub mod Values
+pub mod Put
 pub mod Guid
 pub mod Units
 pub mod Name
@@ -15,6 +17,10 @@ pub mod Session
 pub mod Laws
 pub mod Walk
 pub mod Record
+pub mod RecordState
 pub mod Live
+pub mod Chosen
+pub mod Least
 pub mod Region
 pub mod Kept
+pub mod Texts

@@ -1,14 +1,14 @@
-use Rattle.std.specs.Prelude.{ℕ, ◌+◌, ◌*◌, ◌%◌, ◌==◌, ◌&&◌, ◌||◌, not, Bool, true, false, List, [], ◌∷◌, take, drop, if◌then◌else◌, Option, Some, None, find, reverse, Result, Ok, Err}
-use Rattle.std.specs.BTreeMap.{is_at}
-use Rattle.std.specs.Option.{option_map, option_or}
+use Rattle.std.specs.Prelude.{ℕ, ◌+◌, ◌*◌, ◌%◌, ◌==◌, ◌&&◌, ◌||◌, not, Bool, List, [], ◌∷◌, take, drop, if◌then◌else◌, Option, Some, None, Result, Ok, Err}
+use Rattle.std.specs.Option.{option_map}
 use Rattle.var_types.specs.declared.key.Key.{Key}
 use Rattle.var_types.specs.declared.name.NameFault.{NameFault}
 use Rattle.var_types.specs.declared.record.Record.{Record}
+use Rattle.var_types.specs.declared.record_state.RecordState.{RecordState}
 use Rattle.var_types.specs.declared.variable.Variable.{Variable}
 use Rattle.var_types.specs.Attributes.{has, non_volatile_bit}
-use Rattle.var_types.specs.Key.{key_cmp}
 use Rattle.var_types.specs.Name.{name_check}
 use Rattle.var_types.specs.Record.{Form, header_size}
+use Rattle.var_types.specs.RecordState.{record_state}
 
 -- bytes as units, low byte first; a last odd byte is none
 abbrev pub units_in : List ℕ → List ℕ
@@ -27,6 +27,7 @@ abbrev pub if_named : List ℕ → Result (Unit {0}) NameFault → Option (List 
 if_named units (Ok u) = Some units
 if_named units (Err fault) = None
 
+-- units that were found, where they are a well-formed name
 abbrev pub well_formed : Option (List ℕ) → Option (List ℕ)
 well_formed None = None
 well_formed (Some units) = if_named units (name_check units)
@@ -42,60 +43,48 @@ name_bytes form bytes r = take r.header.name_size (drop (r.at + header_size form
 abbrev pub data_bytes : Form → List ℕ → Record → List ℕ
 data_bytes form bytes r = take r.header.data_size (drop (r.at + header_size form + r.header.name_size) bytes)
 
--- a record that is a variable's: where it stands, and which variable of which key it holds
+-- a record that is a variable's: its offset, its state, and which variable of which key it holds
 pub record Live : Type 0 where
   pub at : ℕ
+  pub state : RecordState
   pub key : Key
   pub variable : Variable
 
--- whether a state says ADDED, or in transition to deleted, or neither (EDK II, VAR_ADDED, VAR_IN_DELETED_TRANSITION)
-abbrev pub standing : ℕ → Option Bool
-standing state = if state == 63 then Some true else if state == 62 then Some false else None
+-- the variable's record that a record with a name is
+abbrev pub live_named : Form → List ℕ → Record → RecordState → Option (List ℕ) → Option Live
+live_named form bytes r state None = None
+live_named form bytes r state (Some name) = Some (record {
+  at = r.at;
+  state = state;
+  key = record { guid = record { bytes = r.header.vendor_guid }; name = name };
+  variable = record {
+    attributes = r.header.attributes;
+    bytes = data_bytes form bytes r;
+    stamp = record { bytes = r.header.time_stamp };
+  };
+})
 
--- the variable that a record of this name holds
-abbrev pub live_named : Form → List ℕ → Record → Bool → Option (List ℕ) → Option (Bool × Live)
-live_named form bytes r added None = None
-live_named form bytes r added (Some name) = Some (
-  added,
-  record {
-    at = r.at;
-    key = record { guid = record { bytes = r.header.guid }; name = name };
-    variable = record {
-      attributes = r.header.attributes;
-      bytes = data_bytes form bytes r;
-      stamp = record { bytes = r.header.stamp };
-    };
-  },
-)
+-- the variable's record that a record with a state is
+abbrev pub live_in_state : Form → List ℕ → Record → Option RecordState → Option Live
+live_in_state form bytes r None = None
+live_in_state form bytes r (Some state) = live_named form bytes r state (name_in (name_bytes form bytes r) r.header.name_size)
 
-abbrev pub live_standing : Form → List ℕ → Record → Option Bool → Option (Bool × Live)
-live_standing form bytes r None = None
-live_standing form bytes r (Some added) = live_named form bytes r added (name_in (name_bytes form bytes r) r.header.name_size)
-
--- what a record holds, and whether it is ADDED or in transition: nothing where it is its header only, has another state or no well-formed
+-- the variable's record that a record is: none where it is its header only, is neither ADDED nor in transition to deleted, has no well-formed
 -- name, or where the store is the non-volatile one and its attributes are not (EDK II, FindVariableEx)
-unfoldable pub live_of : Form → Bool → List ℕ → Record → Option (Bool × Live)
+unfoldable pub live_of : Form → Bool → List ℕ → Record → Option Live
 live_of form non_volatile bytes r =
-    if r.whole && (not non_volatile || has r.header.attributes non_volatile_bit) then live_standing form bytes r (standing r.header.state) else None
+    if r.whole && (not non_volatile || has r.header.attributes non_volatile_bit) then live_in_state form bytes r (record_state r.header.state) else None
 
-abbrev pub with_live : Option (Bool × Live) → List (Bool × Live) → List (Bool × Live)
+-- the live records from one on that may be none
+abbrev pub with_live : Option Live → List Live → List Live
 with_live None lives = lives
 with_live (Some live) lives = live ∷ lives
 
 -- the live records among records, in their order
-abbrev pub lives : Form → Bool → List ℕ → List Record → List (Bool × Live)
+abbrev pub lives : Form → Bool → List ℕ → List Record → List Live
 lives form non_volatile bytes [] = []
 lives form non_volatile bytes (r ∷ rs) = with_live (live_of form non_volatile bytes r) (lives form non_volatile bytes rs)
 
--- whether a live record is a key's, ADDED or in transition
-abbrev pub is_added : Key → Bool × Live → Bool
-is_added key live = live.0 && is_at (key_cmp key) live.1.key
-
-abbrev pub is_in_transition : Key → Bool × Live → Bool
-is_in_transition key live = not live.0 && is_at (key_cmp key) live.1.key
-
--- the record that counts for a key: its first ADDED one, else its last in transition (EDK II, FindVariableEx; the choice among several is this
--- project's own)
-unfoldable pub chosen : Key → List (Bool × Live) → Option Live
-chosen key ls =
-    option_map (λ (live : Bool × Live). live.1) (option_or (find (is_added key) ls) (find (is_in_transition key) (reverse ls)))
+-- the entry of a map that a live record is
+abbrev pub live_entry : Live → Key × Variable
+live_entry live = (live.key, live.variable)

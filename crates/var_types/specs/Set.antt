@@ -5,8 +5,8 @@ use lib.Pointwise.{pointwise}
 use Rattle.var_types.specs.declared.call.SetCall.{SetCall}
 use Rattle.var_types.specs.declared.key.Key.{Key}
 use Rattle.var_types.specs.declared.name.NameFault.{NameFault}
-use Rattle.var_types.specs.declared.reason.SetReason.{SetReason}
-use Rattle.var_types.specs.declared.reason.SetReason.TheVariants.{Name, Size, Missing, AttributesDiffer, Room, HistoryFull}
+use Rattle.var_types.specs.declared.set_reason.SetReason.{SetReason}
+use Rattle.var_types.specs.declared.set_reason.SetReason.TheVariants.{Name, Size, Missing, AttributesDiffer, Room, HistoryFull}
 use Rattle.var_types.specs.declared.reply.SetReply.{SetReply}
 use Rattle.var_types.specs.declared.reply.SetReply.TheVariants.{Ok as Changed, Same, Refused}
 use Rattle.var_types.specs.declared.variable.Variable.{Variable}

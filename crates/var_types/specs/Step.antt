@@ -22,27 +22,21 @@ step state (Get call) = (GetReplied (get_reply state call), state)
 step state (Next call) = (NextReplied (next_reply state call), state)
 step state (Set call) = set_replied (set_step state call)
 
--- whether a reply says that memory was wanting
-abbrev pub lacks_memory : Reply → Bool
-lacks_memory (GetReplied get.OutOfMemory) = true
-lacks_memory (GetReplied get.NotFound) = false
-lacks_memory (GetReplied (get.TooSmall attributes needed)) = false
-lacks_memory (GetReplied (get.Ok attributes bytes)) = false
-lacks_memory (NextReplied next.OutOfMemory) = true
-lacks_memory (NextReplied next.NoSuch) = false
-lacks_memory (NextReplied next.End) = false
-lacks_memory (NextReplied (next.TooSmall needed)) = false
-lacks_memory (NextReplied (next.Ok key)) = false
-lacks_memory (SetReplied set.OutOfMemory) = true
-lacks_memory (SetReplied set.Ok) = false
-lacks_memory (SetReplied set.Same) = false
-lacks_memory (SetReplied (set.Refused reason)) = false
+-- a reply is of its call's kind (UEFI 2.10, 8.2)
+abbrev pub IsOfKind : Call → Reply → Type 0
+IsOfKind (Get call) (GetReplied reply) = Unit {0}
+IsOfKind (Next call) (NextReplied reply) = Unit {0}
+IsOfKind (Set call) (SetReplied reply) = Unit {0}
+IsOfKind _ _ = ⊥
+
+-- whether this reply to the call says that the call was out of memory: it is of the call's kind; so far any call may be (this project's own)
+abbrev pub lacks_memory : Call → Reply → Bool
+lacks_memory (Get call) (GetReplied get.OutOfMemory) = true
+lacks_memory (Next call) (NextReplied next.OutOfMemory) = true
+lacks_memory (Set call) (SetReplied set.OutOfMemory) = true
+lacks_memory _ _ = false
 
 -- whether a reply says that the call changed the state (this project's own)
 abbrev pub is_change : Reply → Bool
 is_change (SetReplied set.Ok) = true
-is_change (SetReplied set.Same) = false
-is_change (SetReplied (set.Refused reason)) = false
-is_change (SetReplied set.OutOfMemory) = false
-is_change (GetReplied reply) = false
-is_change (NextReplied reply) = false
+is_change _ = false

@@ -1,4 +1,4 @@
-use Rattle.std.specs.Prelude.{◌≡◌, ℕ, ◌≤◌, List, [], ◌∷◌, filter, Ok, All}
+use Rattle.std.specs.Prelude.{◌≡◌, ℕ, ◌+◌, ◌*◌, ◌≤◌, List, [], ◌∷◌, filter, Ok, All}
 use Rattle.std.specs.List.Sorted.{IsStrictlySortedBy}
 use Rattle.std.specs.Map.{keys_of}
 use Rattle.var_types.specs.declared.guid.Guid.{Guid}
@@ -6,6 +6,7 @@ use Rattle.var_types.specs.declared.key.Key.{Key}
 use Rattle.var_types.specs.declared.reply.NextReply.TheVariants.{End, Ok as Found}
 use Rattle.var_types.specs.History.{Entry, run}
 use Rattle.var_types.specs.Key.{key_cmp}
+use Rattle.var_types.specs.Layout.{longest_name}
 use Rattle.var_types.specs.Name.{name_check}
 use Rattle.var_types.specs.Next.{next_reply, is_seen}
 use Rattle.var_types.specs.State.{State}
@@ -37,5 +38,5 @@ ChangesKeepSoundness = (state : State) (history : List Entry) → IsSound state 
 -- a walk from an empty name, with room for every name, answers each visible key once, in key order, and no other (UEFI 2.10, 8.2.2)
 abbrev pub WalksAnswerEachKeyOnce : Type 0
 WalksAnswerEachKeyOnce =
-    (state : State) (room : ℕ) (guid : Guid) (keys : List Key) → IsSound state → 1026 ≤ room
+    (state : State) (room : ℕ) (guid : Guid) (keys : List Key) → IsSound state → 2 * longest_name + 2 ≤ room
     → (Walks state room guid [] (visible_keys state)) × (Walks state room guid [] keys → keys ≡ visible_keys state)

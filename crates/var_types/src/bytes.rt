@@ -1,6 +1,7 @@
 ghost use Rattle.std.specs.Prelude.{◌≡◌, ◌==◌, [], ◌++◌, IfOk, OnOk, OnErr};
 ghost use Rattle.std.proofs.Common.{rules};
 ghost use Rattle.std.specs.Cmp.Rules.{comparing};
+ghost use Rattle.var_types.specs.Values.{AreBytes};
 ghost use lib.Pointwise.{pointwise};
 
 use crate::OutOfMemory;
@@ -46,7 +47,7 @@ impl Bytes {
         })
     }
 
-    /// Appends the bytes in amortised time; the list stays as it was where memory is wanting.
+    /// Appends the bytes in amortised time; where it is out of memory, the list stays as it was.
     pub fn append(&mut self, bytes: &[u8]) -> Result<(), OutOfMemory>
         ensures ok { OnOk result (self.new ≡ self.old ++ bytes.now) }
         ensures err { OnErr result (self.new ≡ self.old) }
@@ -56,9 +57,11 @@ impl Bytes {
     }
 
     pub fn as_slice(&self) -> &[u8]
-        ensures { result.now ≡ self.now }
+        ensures items { result.now ≡ self.now }
+        ensures values { AreBytes self.now }
     {
-        &self.items
+        let items = self.items.as_slice();
+        items
     }
 
     /// The vector behind the list, without a copy.

@@ -1,8 +1,9 @@
-ghost use Rattle.std.specs.Prelude.{◌≡◌, ◌++◌, IfOk, OnOk, OnErr};
+ghost use Rattle.std.specs.Prelude.{◌≡◌, length};
 ghost use Rattle.uuid.specs.Parts.{swap_fields};
 ghost use Rattle.uuid.specs.Text.{parsed};
+ghost use Rattle.var_types.specs.Values.{AreBytes};
 
-use crate::{Bytes, OutOfMemory};
+use crate::Put;
 use thiserror::Error;
 use uuid::Uuid;
 
@@ -18,7 +19,7 @@ pub struct Guid {
 }
 
 impl Guid {
-    ghost use Rattle.var_types.specs.Guid.{guid_of, guid_text};
+    ghost use Rattle.var_types.specs.Guid.{IsGuid, guid_of, guid_text};
 
     /// The GUID of a text in one of the forms that `uuid` reads: hyphenated, simple, braced or URN, in either case.
     pub fn read(text: &str) -> Result<Self, NotAGuid>
@@ -40,16 +41,23 @@ impl Guid {
         }
     }
 
+    /// Puts the 36 characters of the hyphenated form in lower case.
     #[tactic(auto, unfolding(crate::specs::Guid::guid_text))]
-    /// Appends the 36 characters of the hyphenated form in lower case.
-    pub fn write(&self, out: &mut Bytes) -> Result<(), OutOfMemory>
-        ensures ok { OnOk result (out.new ≡ out.old ++ guid_text self.now) }
-        ensures err { OnErr result (out.new ≡ out.old) }
+    pub fn write<P: Put>(&self, out: &mut P)
+        ensures text { P.Puts out.old out.new (guid_text self.now) }
+        ensures values { IsGuid self.now }
     {
         let mut buffer = Uuid::encode_buffer();
-        let text = Uuid::from_bytes_le(self.bytes)
-            .hyphenated()
-            .encode_lower(&mut buffer);
-        out.append(text.as_bytes())
+        let text = uuid_of(&self.bytes).hyphenated().encode_lower(&mut buffer);
+        out.put(text.as_bytes());
     }
+}
+
+// The UUID of bytes as they are stored.
+fn uuid_of(bytes: &[u8; 16]) -> Uuid
+    ensures uuid { result ≡ swap_fields bytes.now }
+    ensures length { length bytes.now ≡ 16 }
+    ensures values { AreBytes bytes.now }
+{
+    Uuid::from_bytes_le(*bytes)
 }

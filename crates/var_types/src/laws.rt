@@ -1,13 +1,27 @@
 //! Laws of the definitions: each is the contract of a function that does nothing.
-ghost use Rattle.std.specs.Prelude.{ℕ, []};
-ghost use Rattle.var_types.specs.Laws.{SteppedSessionsAreLegal, ChangesLeaveTheState, SameChangesLeaveTheSameState, GuidsReadBack};
+ghost use Rattle.std.specs.Prelude.{◌≡◌, ℕ, []};
+ghost use Rattle.var_types.specs.declared.key.Key.{Key};
+ghost use Rattle.var_types.specs.Key.{key_cmp};
+ghost use Rattle.var_types.specs.Laws.{RightRepliesFit, SteppedRepliesFit, SteppedSessionsAreLegal, LegalSessionsGrow, ChangesLeaveTheState};
+ghost use Rattle.var_types.specs.Laws.{SameChangesLeaveTheSameState, GuidsReadBack};
 ghost use Rattle.var_types.specs.Laws.{BytesHaveRecords, BytesHaveOneList, MapsStandInKeyOrder, MapsHoldWhatCounts, WhatCountsDecidesTheMap};
 ghost use Rattle.var_types.specs.State.{start};
 ghost use Rattle.var_types.specs.Walk.{IsSound, ChangesKeepSoundness, WalksAnswerEachKeyOnce};
 
-/// A session that the one-thread service stepped is a legal one.
+/// Replies that are right at a place of a history, and those of stepped calls, are of their calls' kinds.
+pub fn replies_are_of_their_calls_kind()
+    ensures right { RightRepliesFit }
+    ensures stepped { SteppedRepliesFit }
+{}
+
+/// A session that the one-thread service stepped is a legal one, of one processor.
 pub fn stepped_sessions_are_legal()
     ensures { SteppedSessionsAreLegal }
+{}
+
+/// A legal session of any processors grows by a call of one of them that is answered after its history.
+pub fn legal_sessions_grow()
+    ensures { LegalSessionsGrow }
 {}
 
 /// What a session leaves is decided by the calls that made changes, in their order.
@@ -43,4 +57,9 @@ pub fn maps_hold_what_counts()
     ensures ordered { MapsStandInKeyOrder }
     ensures holds { MapsHoldWhatCounts }
     ensures same { WhatCountsDecidesTheMap }
+{}
+
+/// Keys compare as the definition of their order says.
+pub fn keys_are_ordered_as_defined()
+    ensures { (a b : Key) → ⟦<crate::Key as Ord>⟧.cmp a b ≡ key_cmp a b }
 {}

@@ -11,14 +11,18 @@ mod laws;
 mod name;
 mod out_of_memory;
 mod policy;
-mod reason;
+mod put;
 mod record;
+mod record_state;
 mod reply;
 mod room;
+mod set_reason;
 mod stamp;
 mod store;
 #[cfg(test)]
 mod tests;
+pub mod text;
+mod text_buffer;
 mod units;
 mod variable;
 mod verdict;
@@ -30,17 +34,21 @@ pub use guid::{Guid, NotAGuid};
 pub use key::Key;
 pub use laws::{
     bytes_have_one_list_of_records, changes_decide_the_state, changes_keep_soundness,
-    guids_read_back, maps_hold_what_counts, stepped_sessions_are_legal, walks_answer_each_key_once,
+    guids_read_back, keys_are_ordered_as_defined, legal_sessions_grow, maps_hold_what_counts,
+    replies_are_of_their_calls_kind, stepped_sessions_are_legal, walks_answer_each_key_once,
 };
 pub use name::{LONGEST_NAME, NameFault, check_name};
 pub use out_of_memory::OutOfMemory;
 pub use policy::{Lock, Policy};
-pub use reason::SetReason;
+pub use put::Put;
 pub use record::Record;
+pub use record_state::RecordState;
 pub use reply::{GetReply, NextReply, Reply, SetReply};
 pub use room::{LARGEST_RECORD, align4, record_size, room_of};
+pub use set_reason::SetReason;
 pub use stamp::Stamp;
 pub use store::Store;
+pub use text_buffer::TextBuffer;
 pub use units::{MOST_UNITS, Units, UnitsFault};
 pub use variable::Variable;
 pub use verdict::Verdict;

@@ -18,7 +18,7 @@ pub enum NameFault {
 }
 
 fn first_nul(units: &[u16]) -> Option<usize>
-    ensures place { result ≡ position (λ unit. unit == 0) units.now }
+    ensures position { result ≡ position (λ unit. unit == 0) units.now }
     ensures within { IfSome result (λ at. at < length units.now) }
 {
     units.iter().position(|unit| *unit == 0)

@@ -45,7 +45,7 @@ pub enum Reply {
 }
 
 impl Reply {
-    ghost use Rattle.var_types.specs.Step.{is_change, lacks_memory};
+    ghost use Rattle.var_types.specs.Step.{is_change};
 
     /// Whether it says that its call changed the state.
     pub fn is_change(&self) -> bool
@@ -53,18 +53,6 @@ impl Reply {
     {
         match self {
             Reply::Set(SetReply::Ok) => true,
-            _ => false,
-        }
-    }
-
-    /// Whether it says that its call was out of memory.
-    pub fn lacks_memory(&self) -> bool
-        ensures { result ≡ lacks_memory self.now }
-    {
-        match self {
-            Reply::Get(GetReply::OutOfMemory) => true,
-            Reply::Next(NextReply::OutOfMemory) => true,
-            Reply::Set(SetReply::OutOfMemory) => true,
             _ => false,
         }
     }

@@ -1,3 +1,4 @@
+use super::text::{write_attributes, write_bytes, write_name, write_number};
 use super::*;
 use std::alloc::{AllocError, Global};
 use std::cmp::Ordering;
@@ -46,13 +47,25 @@ fn guids_are_read_in_every_form(rt: HostRuntime) {
 }
 
 #[test]
-fn a_guid_is_written_in_lower_case(rt: HostRuntime) -> Result<(), Fail> {
-    let mut out = Bytes::copy(rt.alloc(), b"<")?;
-    Guid { bytes: GLOBAL }.write(&mut out)?;
-    assert_eq!(rt;
-        out.as_slice(),
-        b"<8be4df61-93ca-11d2-aa0d-00e098032b8c".as_slice()
-    );
+fn values_are_printed(rt: HostRuntime) -> Result<(), Fail> {
+    let mut out = TextBuffer::new(rt.alloc());
+    out.put(b"<");
+    Guid { bytes: GLOBAL }.write(&mut out);
+    out.put(b" ");
+    write_number(u64::MAX, &mut out);
+    out.put(b" ");
+    write_attributes(0xAB, &mut out);
+    for bytes in [[].as_slice(), &[0x0F], &[0xA0; 33]] {
+        out.put(b" ");
+        write_bytes(bytes, &mut out);
+    }
+    for name in [[].as_slice(), &[0x2D], &[0x2D, 0x25], &[0x41, 0x20, 0x2603]] {
+        out.put(b" ");
+        write_name(name, &mut out);
+    }
+    let want = b"<8be4df61-93ca-11d2-aa0d-00e098032b8c 18446744073709551615 0x000000ab - 0f \
+        a0a0a0a0a0a0a0a0a0a0a0a0a0a0a0a0a0a0a0a0a0a0a0a0a0a0a0a0a0a0a0a0a0 - %002d -%0025 A%0020%2603";
+    assert_eq!(rt; out.finish()?.as_slice(), want.as_slice());
     Ok(())
 }
 

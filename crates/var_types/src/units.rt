@@ -9,6 +9,7 @@ ghost use Rattle.var_types.specs.declared.units.UnitsFault.TheVariants.{OutOfMem
 ghost use Rattle.var_types.specs.Layout.{most_units};
 ghost use Rattle.var_types.specs.Live.{units_in};
 ghost use Rattle.var_types.specs.Units.{RefusesUnits};
+ghost use Rattle.var_types.specs.Values.{AreUnits};
 ghost use lib.Pointwise.{pointwise};
 
 use std::alloc::{AllocError, AllocFailed, Global};
@@ -91,8 +92,10 @@ impl Units {
     pub fn as_slice(&self) -> &[u16]
         ensures items { result.now ≡ self.now }
         ensures limit { length self.now ≤ most_units }
+        ensures values { AreUnits self.now }
     {
-        &self.items
+        let items = self.items.as_slice();
+        items
     }
 }
 

@@ -1,12 +1,12 @@
 -- A blank image keeps no variable: its volume is its headers, and erased behind them.
-use Rattle.std.proofs.Common.{◌≡◌, ℕ, ◌+◌, ◌-◌, ◌≤◌, List, [], ◌++◌, length, take, drop, replicate, sym, ap, ◌∙◌, subst, arith, lit≤, length-append}
+use Rattle.std.proofs.Common.{◌≡◌, ℕ, ◌+◌, ◌-◌, ◌≤◌, List, [], ◌++◌, length, take, replicate, sym, ap, ◌∙◌, subst, arith, lit≤, length-append}
 use Rattle.std.proofs.lemmas.List.{length-replicate, take-replicate}
 use Rattle.std.proofs.Math.Seq.{drop-append_seam, take-append-add}
 use Rattle.flash_dev.proofs.Blanks.{length-blank_headers}
 use Rattle.flash_dev.specs.Blank.{blank_headers, blank_image}
-use Rattle.var_region.proofs.Erased.{IsEmptyArea-erased}
+use Rattle.var_region.proofs.Erased.{IsEmptyRegion-erased}
 use Rattle.var_region.specs.Laws.{AreErasedFrom}
-use Rattle.var_types.specs.Kept.{content, content_area, kept}
+use Rattle.var_types.specs.Kept.{content, content_region, kept}
 
 -- the front of bytes with erased ones behind them
 front_of : (bytes : List ℕ) (n m : ℕ) → n ≤ m → take (length bytes + n) (bytes ++ replicate m 255) ≡ bytes ++ replicate n 255
@@ -32,4 +32,4 @@ unfolding kept
 kept-blank_image =
     let behind = subst (λ at. AreErasedFrom at (blank_headers ++ replicate 57244 255)) length-blank_headers (erased_behind blank_headers 57244) in
     let erased = subst (AreErasedFrom 100) (sym volume_is) behind in
-    (IsEmptyArea-erased (content_area blank_image) erased).no_variables
+    (IsEmptyRegion-erased (content_region blank_image) erased).no_variables

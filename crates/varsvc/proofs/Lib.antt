@@ -3,7 +3,13 @@ pub mod Sessions
 pub mod Stepped
 pub mod Inputs
 pub mod Scripts
+pub mod PlannedTexts
 pub mod Plans
+pub mod Runs
+pub mod Volumes
+pub mod Usages
+pub mod Left
+pub mod Judged
 pub mod Cut
 pub mod WordBytes
 pub mod SameTexts
@@ -13,5 +19,4 @@ pub mod ReplyWords
 pub mod SameReplies
 pub mod SessionLines
 pub mod OneSession
-pub mod Images
 pub mod BlankImages

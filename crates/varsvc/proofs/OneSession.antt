@@ -1,17 +1,22 @@
-use Rattle.std.proofs.Common.{◌≡◌, ℕ, suc, ◌+◌, ◌-◌, List, [], ◌∷◌, ◌++◌, length, drop, decimal, All, refl, sym, ap, ◌∙◌, subst, arith, length-append}
+use Rattle.std.proofs.Common.{◌≡◌, ℕ, suc, ◌+◌, ◌-◌, List, [], ◌∷◌, ◌++◌, length, drop, decimal, All, Result, Ok, refl, sym, ap, ◌∙◌, subst, arith, length-append}
 use Rattle.std.proofs.lemmas.Fmt.{decimal_injective}
 use Rattle.std.proofs.lemmas.List.{append_cancel_right, length-map}
 use Rattle.std.proofs.lemmas.List.Elements.{All-head, All-tail}
 use Rattle.std.proofs.lemmas.List.Prefix.{end_rest}
-use Rattle.script_text.specs.Texts.{spaced}
+use Rattle.script_text.specs.declared.script_fault.ScriptFault.{ScriptFault}
+use Rattle.script_text.specs.Script.{script_of}
+use Rattle.var_types.specs.Texts.{spaced}
 use Rattle.var_types.specs.declared.answered.Answered.{Answered}
 use Rattle.var_types.specs.declared.answered.Route.{Route}
 use Rattle.var_types.specs.declared.answered.Route.TheVariants.{Plain}
+use Rattle.var_types.specs.declared.call.Call.{Call}
 use Rattle.var_types.specs.Session.{calls_of}
 use Rattle.report_text.specs.declared.word.Word.TheVariants as word
-use Rattle.varsvc.specs.Fitting.{IsOfKind, IsFitting, OneTextOneSession}
+use Rattle.var_types.specs.Step.{IsOfKind}
+use Rattle.varsvc.specs.Fitting.{IsFitting}
 use Rattle.varsvc.specs.Replies.{reply_text}
 use Rattle.varsvc.specs.Report.{route_word}
+use Rattle.varsvc.specs.Runs.{OneTextOneSession, report_of}
 use Rattle.report_text.specs.Word.{word_text}
 use Rattle.varsvc.proofs.Cut.{cut}
 use Rattle.varsvc.proofs.SameReplies.{same_replies}
@@ -41,10 +46,10 @@ same_answer index a b call h k e =
     (IsWord-decimal a.place) (IsWord-decimal b.place) one.1 in
     let three = cut is_word_byte 32 route way (reply_text a.reply) (reply_text b.reply) refl
     (IsWord-word_text (route_word a.route)) (IsWord-word_text (route_word b.route)) two.1 in
-    let same_place : a.place ≡ b.place = decimal_injective a.place b.place h.2 k.2 two.0 in
+    let same_place : a.place ≡ b.place = decimal_injective a.place b.place h.1.1 k.1.1 two.0 in
     let same_route : a.route ≡ b.route = same_routes a.route b.route three.0 in
     let kind : IsOfKind a.call b.reply = subst (λ c. IsOfKind c b.reply) (sym call) k.0 in
-    let same_reply : a.reply ≡ b.reply = same_replies a.call a.reply b.reply h.0 kind h.1 k.1 three.1 in
+    let same_reply : a.reply ≡ b.reply = same_replies a.call a.reply b.reply h.0 kind h.1.0 k.1.0 three.1 in
     same_parts a b call same_place same_route same_reply
 
 -- the ends of one list, as long as each other
@@ -76,9 +81,9 @@ length-last_lines : (xs : List Answered) → length (last_lines xs) ≡ length x
 length-last_lines xs =
     omega (arith, length-append (answer_texts 0 xs) (word_text word.End ∷ []), length-answer_texts 0 xs)
 
--- a report tells the session
-pub one_session : OneTextOneSession
-one_session xs ys calls h k e =
+-- sessions of the same calls that have the same report are the same
+same_session : (xs ys : List Answered) → calls_of xs ≡ calls_of ys → All IsFitting xs → All IsFitting ys → report_of xs ≡ report_of ys → xs ≡ ys
+same_session xs ys calls h k e =
     let lines = same_lines (first_lines xs ++ last_lines xs) (first_lines ys ++ last_lines ys) (AreLines-session xs) (AreLines-session ys)
     (sym (session_text-lines xs) ∙ e ∙ session_text-lines ys) in
     let as_many : length xs ≡ length ys = sym (length-map xs (λ a. a.call)) ∙ ap length calls ∙ length-map ys (λ a. a.call) in
@@ -87,3 +92,12 @@ one_session xs ys calls h k e =
     (length-last_lines xs ∙ ap (λ n. n + 2) as_many ∙ sym (length-last_lines ys)) lines in
     let behind : answer_texts 0 xs ++ word_text word.End ∷ [] ≡ answer_texts 0 ys ++ word_text word.End ∷ [] = ap (drop 1) ends in
     same_answers 0 xs ys calls h k (append_cancel_right (answer_texts 0 xs) (answer_texts 0 ys) (word_text word.End ∷ []) behind)
+
+-- a script has one list of calls
+same_calls : (script : Result (List (List Call)) ScriptFault) (c d : List Call) → script ≡ Ok (c ∷ []) → script ≡ Ok (d ∷ []) → c ≡ d
+same_calls script c d h k = cc
+
+-- a report tells the session
+pub one_session : OneTextOneSession
+one_session input xs ys of_xs of_ys e =
+    same_session xs ys (same_calls (script_of input) (calls_of xs) (calls_of ys) of_xs.script of_ys.script) of_xs.fitting of_ys.fitting e

@@ -1,101 +1,98 @@
-use Rattle.std.proofs.Common.{◌≡◌, ◌⊎◌, ℕ, Bool, true, false, List, [], ◌∷◌, length, max, Option, Some, None, Ok, Err, IfSome, refl, sym, ap, ◌∙◌, subst, inl, inr, ⊎_elim, arith, lit<, if◌then◌else◌}
-use Rattle.std.proofs.lemmas.List.{length-map}
-use Rattle.script_text.specs.declared.fault.ScriptFault.{ScriptFault}
-use Rattle.script_text.specs.Script.{script_of}
-use Rattle.var_types.specs.declared.answered.Answered.{Answered}
-use Rattle.var_types.specs.declared.call.Call.{Call}
-use Rattle.var_types.specs.Session.{AreStepped, calls_of}
-use Rattle.var_types.specs.State.{start}
+-- From the plan that is made to its status and its text.
+use Rattle.std.proofs.Common.{◌≡◌, ◌≢◌, ℕ, Bool, false, List, [], IsTrue, refl, sym, ap, ◌∙◌, subst, arith}
+use Rattle.flash_dev.specs.declared.image_fault.ImageFault.{ImageFault}
+use Rattle.flash_dev.specs.declared.image_fault.ImageFault.TheVariants as image
+use Rattle.outside.specs.Faults.{HasRisen}
+use Rattle.var_types.specs.Put.{PutsBy, PutsText, Text}
 use Rattle.varsvc.specs.declared.plan.Plan.{Plan}
-use Rattle.varsvc.specs.declared.plan.Plan.TheVariants.{Print, NoMemory}
-use Rattle.varsvc.specs.FaultLines.{memory_line, script_line}
-use Rattle.varsvc.specs.Input.{IsInput}
-use Rattle.varsvc.specs.Outcome.{IsSessionOf, IsRun, Reports, RefusesScript, lacks_any}
-use Rattle.varsvc.specs.Plan.{status_of, text_of, report_status, PlansRun, PlansScript}
-use Rattle.varsvc.specs.Report.{session_text}
-use Rattle.varsvc.proofs.Scripts.{script_of-take}
+use Rattle.varsvc.specs.declared.plan.Plan.TheVariants.{Print, InputFault, DeviceFault, NoMemory}
+use Rattle.varsvc.specs.FaultLines.{image_line}
+use Rattle.varsvc.specs.Outcome.{FailsAt, IsText, Row}
+use Rattle.varsvc.specs.Plan.{PlansFault, PlansLine, PlansText, status_of, text_of}
+use Rattle.varsvc.proofs.PlannedTexts.{none_fails, one_fails, text_device, text_image, text_memory}
 
--- an accepted script is run
-pub PlansScript-run : (input : List ℕ) (calls : List Call) (plan : Plan) → script_of input ≡ Ok (calls ∷ []) → PlansRun calls plan
-    → PlansScript input plan
-PlansScript-run input calls NoMemory h run = tt
-PlansScript-run input calls (Print s text) h run =
-    let same : calls_of run.0 ≡ calls = run.1 in
-    let count : length calls ≡ length run.0 = ap length (sym same) ∙ length-map run.0 (λ a. a.call) in
-    inr (
-      run.0,
-      record {
-        script = h ∙ ap (λ (cs : List Call). Ok (cs ∷ [])) (sym same);
-        stepped = subst (λ n. AreStepped (start [] (max n 1)) run.0) count run.2;
-      },
-      run.3.0,
-      run.3.1,
-    )
+-- the plan of a text in memory to which a line was put is the plan of that line
+pub planned_line : (status : ℕ) (line : List ℕ) (held : Text) (plan : Plan) → PutsText (record { bytes = []; lacks = false }) held line
+    → PlansText status held plan → PlansLine status line plan
+unfolding PutsText
+planned_line status line held (Print s t) put (is_status, whole, is_text) =
+    (is_status, is_text ∙ subst (λ (b : Bool). PutsBy false b (record { bytes = []; lacks = false }) held line) whole put)
+planned_line status line held InputFault put plans = plans
+planned_line status line held DeviceFault put plans = plans
+planned_line status line held NoMemory put plans = tt
 
--- what is read says the same of the script as all that was left
-IsInput-script : (left : Option (List ℕ)) (input : List ℕ) → IsInput left input → IfSome left (λ bytes. script_of input ≡ script_of bytes)
-unfolding IsInput
-IsInput-script None input h = tt
-IsInput-script (Some bytes) input h = ap script_of h ∙ script_of-take 1048577 bytes (lit< tt)
+-- the same, by what a text in memory is at first
+pub planned : (status : ℕ) (line : List ℕ) (start held : Text) (plan : Plan) → start ≡ record { bytes = []; lacks = false } → PutsText start held line
+    → PlansText status held plan → PlansLine status line plan
+planned status line start held plan is put plans = planned_line status line held plan (subst (λ (s : Text). PutsText s held line) is put) plans
 
--- the report of what is read is that of all that was left
-Reports-input : (left : Option (List ℕ)) (input text : List ℕ) (lacking : Bool) (answered : List Answered)
-    → IfSome left (λ bytes. script_of input ≡ script_of bytes)
-    → IsSessionOf input answered → lacks_any answered ≡ lacking → text ≡ session_text answered → Reports left lacking text
-Reports-input None input text lacking answered same session lacks is = tt
-Reports-input (Some bytes) input text lacking answered same session lacks is =
-    (answered, record { script = sym same ∙ session.script; stepped = session.stepped }, lacks, is)
+-- the plan of the line of a fault that is no failed call of the flash
+pub plans_fault : (fault : ImageFault) (plan : Plan) → fault ≢ image.Device → PlansLine 4 (image_line fault) plan → PlansFault fault plan
+plans_fault (image.ImageSize have want) plan other plans = plans
+plans_fault (image.NotAVolume at) plan other plans = plans
+plans_fault (image.BlockSize value) plan other plans = plans
+plans_fault (image.BadSum sum) plan other plans = plans
+plans_fault (image.NotAStore at) plan other plans = plans
+plans_fault image.Device plan other plans = absurd (other refl)
 
-RefusesScript-input : (left : Option (List ℕ)) (input text : List ℕ) (fault : ScriptFault)
-    → IfSome left (λ bytes. script_of input ≡ script_of bytes) → script_of input ≡ Err fault → text ≡ script_line fault → RefusesScript left text
-RefusesScript-input None input text fault same refused is = tt
-RefusesScript-input (Some bytes) input text fault same refused is = (fault, sym same ∙ refused, is)
+-- the plan of a line has the text that goes with its status
+pub line_text : (r : Row) (status : ℕ) (line : List ℕ) (plan : Plan) → IsText r status line → PlansLine status line plan
+    → IsText r (status_of plan) (text_of plan)
+line_text r status line (Print s t) is (is_status, is_text) =
+    subst (λ (s : ℕ). IsText r s t) (sym is_status) (subst (λ (t : List ℕ). IsText r status t) (sym is_text) is)
+line_text r status line InputFault is plans = absurd plans
+line_text r status line DeviceFault is plans = absurd plans
+line_text r status line NoMemory is plans = text_memory r
 
--- a run at each of its statuses
-pub IsRun-memory : (left : Option (List ℕ)) (old new : ℕ) (text : List ℕ) → (text ≡ memory_line) ⊎ Reports left true text → IsRun left old new 8 text
-IsRun-memory left old new text h = record {
-  known = inr (inr (inr refl));
-  reports = λ e. absurd (omega (arith, e));
-  script = λ e. absurd (omega (arith, e));
-  input = λ e. absurd (omega (arith, e));
-  memory = λ e. h;
-}
+-- the plan of a line has another status than one that neither it nor a call out of memory has
+pub other_status : (fault status : ℕ) (line : List ℕ) (plan : Plan) → status ≢ fault → 8 ≢ fault → PlansLine status line plan → status_of plan ≢ fault
+other_status fault status line (Print s t) other memory (is_status, is_text) = λ e. other (sym is_status ∙ e)
+other_status fault status line InputFault other memory plans = absurd plans
+other_status fault status line DeviceFault other memory plans = absurd plans
+other_status fault status line NoMemory other memory plans = memory
 
-IsRun-reports : (left : Option (List ℕ)) (old new : ℕ) (text : List ℕ) → Reports left false text → IsRun left old new 0 text
-IsRun-reports left old new text h = record {
-  known = inl refl;
-  reports = λ e. h;
-  script = λ e. absurd (omega (arith, e));
-  input = λ e. absurd (omega (arith, e));
-  memory = λ e. absurd (omega (arith, e));
-}
+-- eight is another number
+pub other_eight : (n : ℕ) → n ≢ 8 → 8 ≢ n
+other_eight n other = λ e. other (sym e)
 
-IsRun-script : (left : Option (List ℕ)) (old new : ℕ) (text : List ℕ) → RefusesScript left text → IsRun left old new 3 text
-IsRun-script left old new text h = record {
-  known = inr (inl refl);
-  reports = λ e. absurd (omega (arith, e));
-  script = λ e. h;
-  input = λ e. absurd (omega (arith, e));
-  memory = λ e. absurd (omega (arith, e));
-}
+module _ (r : Row) (opens : IsTrue r.opens) where
+  refused_text : (line : List ℕ) (plan : Plan) → r.image line → PlansLine 4 line plan → IsText r (status_of plan) (text_of plan)
+  refused_text line plan refused plans = line_text r 4 line plan (text_image r line refused) plans
 
--- a session's report at its status
-IsRun-session : (left : Option (List ℕ)) (old new : ℕ) (text : List ℕ) (answered : List Answered) (lacking : Bool) → lacks_any answered ≡ lacking
-    → ((b : Bool) → lacks_any answered ≡ b → Reports left b text) → IsRun left old new (if lacking then 8 else 0) text
-IsRun-session left old new text answered true e h = IsRun-memory left old new text (inr (h true e))
-IsRun-session left old new text answered false e h = IsRun-reports left old new text (h false e)
+  -- the plan for a fault of an image has the text that goes with its status
+  pub fault_text : (fault : ImageFault) (plan : Plan) → (fault ≢ image.Device → r.image (image_line fault)) → PlansFault fault plan
+      → IsText r (status_of plan) (text_of plan)
+  fault_text (image.ImageSize have want) plan refused plans = refused_text _ plan (refused (λ e. cc)) plans
+  fault_text (image.NotAVolume at) plan refused plans = refused_text _ plan (refused (λ e. cc)) plans
+  fault_text (image.BlockSize value) plan refused plans = refused_text _ plan (refused (λ e. cc)) plans
+  fault_text (image.BadSum sum) plan refused plans = refused_text _ plan (refused (λ e. cc)) plans
+  fault_text (image.NotAStore at) plan refused plans = refused_text _ plan (refused (λ e. cc)) plans
+  fault_text image.Device plan refused plans = subst (λ (plan : Plan). IsText r (status_of plan) (text_of plan)) (sym plans) (text_device r opens)
 
--- the plan for what is read is the run of what was left
-pub IsRun-script_plan : (left : Option (List ℕ)) (old new : ℕ) (input : List ℕ) (plan : Plan) → IsInput left input → PlansScript input plan
-    → IsRun left old new (status_of plan) (text_of plan)
-IsRun-script_plan left old new input NoMemory read h = IsRun-memory left old new memory_line (inl refl)
-IsRun-script_plan left old new input (Print s text) read h =
-    let same = IsInput-script left input read in
-    ⊎_elim
-    (λ (refused : (s ≡ 3) × (fault : ScriptFault) × (script_of input ≡ Err fault) × (text ≡ script_line fault)).
-    subst (λ n. IsRun left old new n text) (sym refused.0)
-    (IsRun-script left old new text (RefusesScript-input left input text refused.1 same refused.2 refused.3)))
-    (λ (ran : (answered : List Answered) × IsSessionOf input answered × (s ≡ report_status answered) × (text ≡ session_text answered)).
-    subst (λ n. IsRun left old new n text) (sym ran.2)
-    (IsRun-session left old new text ran.0 (lacks_any ran.0) refl (λ b e. Reports-input left input text b ran.0 same ran.1 e ran.3)))
-    h
+-- the status of the plan for a fault is 7 for a failed call of the flash, and else neither 7 nor 0
+pub device_status : (plan : Plan) → PlansFault image.Device plan → status_of plan ≡ 7
+device_status plan plans = ap status_of plans
+
+pub refused_status : (n : ℕ) (fault : ImageFault) (plan : Plan) → 4 ≢ n → 8 ≢ n → fault ≢ image.Device → PlansFault fault plan → status_of plan ≢ n
+refused_status n (image.ImageSize have want) plan four eight other plans = other_status n 4 _ plan four eight plans
+refused_status n (image.NotAVolume at) plan four eight other plans = other_status n 4 _ plan four eight plans
+refused_status n (image.BlockSize value) plan four eight other plans = other_status n 4 _ plan four eight plans
+refused_status n (image.BadSum sum) plan four eight other plans = other_status n 4 _ plan four eight plans
+refused_status n (image.NotAStore at) plan four eight other plans = other_status n 4 _ plan four eight plans
+refused_status n image.Device plan four eight other plans = absurd (other refl)
+
+-- the plan for a fault of an image has status 7 exactly where a call of the flash failed
+pub fault_fails : (fault : ImageFault) (plan : Plan) (before after : ℕ) → (fault ≡ image.Device → HasRisen before after)
+    → (fault ≢ image.Device → after ≡ before) → PlansFault fault plan → FailsAt 7 (status_of plan) before after
+fault_fails (image.ImageSize have want) plan before after failed same plans =
+    none_fails 7 _ before after (other_status 7 4 _ plan (λ e. absurd (omega (arith, e))) (λ e. absurd (omega (arith, e))) plans) (same (λ e. cc))
+fault_fails (image.NotAVolume at) plan before after failed same plans =
+    none_fails 7 _ before after (other_status 7 4 _ plan (λ e. absurd (omega (arith, e))) (λ e. absurd (omega (arith, e))) plans) (same (λ e. cc))
+fault_fails (image.BlockSize value) plan before after failed same plans =
+    none_fails 7 _ before after (other_status 7 4 _ plan (λ e. absurd (omega (arith, e))) (λ e. absurd (omega (arith, e))) plans) (same (λ e. cc))
+fault_fails (image.BadSum sum) plan before after failed same plans =
+    none_fails 7 _ before after (other_status 7 4 _ plan (λ e. absurd (omega (arith, e))) (λ e. absurd (omega (arith, e))) plans) (same (λ e. cc))
+fault_fails (image.NotAStore at) plan before after failed same plans =
+    none_fails 7 _ before after (other_status 7 4 _ plan (λ e. absurd (omega (arith, e))) (λ e. absurd (omega (arith, e))) plans) (same (λ e. cc))
+fault_fails image.Device plan before after failed same plans =
+    subst (λ (plan : Plan). FailsAt 7 (status_of plan) before after) (sym plans) (one_fails 7 before after (failed refl))

@@ -7,10 +7,8 @@ use Rattle.std.proofs.lemmas.Slice.Eq.{bytes_eq-Decides}
 use Rattle.std.specs.Int.{to_be_bytes, from_be_bytes, w16}
 use Rattle.hex.specs.Hex.{encode_lower, lower_digits}
 use Rattle.hex.proofs.HexLemmas.{length-encode_with}
-use Rattle.script_text.specs.Names.{is_plain}
-use Rattle.script_text.specs.Numbers.{is_dash}
-use Rattle.script_text.specs.Texts.{escaped_text, unit_text, name_text}
-use Rattle.varsvc.specs.Fitting.{AreUnits}
+use Rattle.var_types.specs.Texts.{escaped_text, is_dash, is_plain, name_text, unit_text}
+use Rattle.var_types.specs.Values.{AreUnits}
 use Rattle.varsvc.proofs.SameTexts.{IsBytes-be_2, same_hex, none_from_test}
 
 -- no unit that stands for itself is `%`

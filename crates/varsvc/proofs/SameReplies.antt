@@ -6,8 +6,8 @@ use Rattle.var_types.specs.declared.guid.Guid.{Guid}
 use Rattle.var_types.specs.declared.key.Key.{Key}
 use Rattle.var_types.specs.declared.name.NameFault.{NameFault}
 use Rattle.var_types.specs.declared.name.NameFault.TheVariants as name
-use Rattle.var_types.specs.declared.reason.SetReason.{SetReason}
-use Rattle.var_types.specs.declared.reason.SetReason.TheVariants as reason
+use Rattle.var_types.specs.declared.set_reason.SetReason.{SetReason}
+use Rattle.var_types.specs.declared.set_reason.SetReason.TheVariants as reason
 use Rattle.var_types.specs.declared.reply.GetReply.{GetReply}
 use Rattle.var_types.specs.declared.reply.GetReply.TheVariants as get
 use Rattle.var_types.specs.declared.reply.NextReply.{NextReply}
@@ -16,7 +16,8 @@ use Rattle.var_types.specs.declared.reply.Reply.{Reply}
 use Rattle.var_types.specs.declared.reply.Reply.TheVariants as reply
 use Rattle.var_types.specs.declared.reply.SetReply.{SetReply}
 use Rattle.var_types.specs.declared.reply.SetReply.TheVariants as set
-use Rattle.varsvc.specs.Fitting.{IsOfKind, HasValues, HasValuesOfGet, HasValuesOfNext, HasValuesOfFault, HasValuesOfReason, HasValuesOfSet}
+use Rattle.var_types.specs.Step.{IsOfKind}
+use Rattle.varsvc.specs.Values.{HasValues, HasValuesOfGet, HasValuesOfNext, HasValuesOfFault, HasValuesOfReason, HasValuesOfSet}
 use Rattle.varsvc.specs.Replies.{reply_text}
 use Rattle.report_text.specs.Word.{word_text}
 use Rattle.varsvc.proofs.ReplyWords.{get_words, next_words, fault_words, reason_words, set_words, reply_words, reply_text-words, HaveWords-reply}
@@ -108,7 +109,7 @@ same_reason r s h k e = unfold word_text in
     let second : number_at 1 (reason_words r) ≡ number_at 1 (reason_words s) = ap (number_at 1) e in
     absurd (omega (arith, second))
 
--- a refusal's first word is neither that of success nor that of want of memory
+-- a refusal's first word is neither that of success nor that of a call out of memory
 refused : (r : SetReason) → (number_at 0 (reason_words r) ≡ number_at 0 (set_words set.Ok) → ⊥) × (number_at 0 (reason_words r) ≡ number_at 0 (set_words set.OutOfMemory) → ⊥)
 unfolding word_text
 refused (reason.Name x) = (omega arith, omega arith)

@@ -11,8 +11,8 @@ use Rattle.uuid.specs.Text.{lower, parsed}
 use Rattle.uuid.proofs.RoundTrips.{parses_hyphenated, swap_twice}
 use Rattle.var_types.specs.declared.guid.Guid.{Guid}
 use Rattle.var_types.specs.Guid.{IsGuid, guid_text}
-use Rattle.script_text.specs.Texts.{attributes_text, bytes_text}
-use Rattle.varsvc.specs.Fitting.{AreBytes}
+use Rattle.var_types.specs.Texts.{attributes_text, bytes_text}
+use Rattle.var_types.specs.Values.{AreBytes}
 
 -- the bytes of a list, also past its end
 IsBytes-from_all : (bytes : List ℕ) → AreBytes bytes → IsBytes bytes

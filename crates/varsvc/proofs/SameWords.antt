@@ -1,5 +1,5 @@
 use Rattle.std.proofs.Common.{◌≡◌, ℕ, List, [], ◌∷◌, ◌++◌, flat_map, refl, sym, ap, ◌∙◌, append_assoc}
-use Rattle.script_text.specs.Texts.{spaced}
+use Rattle.var_types.specs.Texts.{spaced}
 use Rattle.varsvc.proofs.Cut.{cut, uncut}
 use Rattle.varsvc.proofs.WordBytes.{is_line_byte, is_word_byte, AreWords, AreLines}
 

@@ -1,34 +1,25 @@
-use Rattle.std.proofs.Common.{◌≡◌, ℕ, ◌<◌, ◌≤◌, Bool, true, false, cond, List, [], ◌∷◌, length, take, Result, Ok, Err, nat_lt, sym, ap, ◌∙◌, arith, ⊎_elim}
+use Rattle.std.proofs.Common.{◌≡◌, ℕ, ◌<◌, ◌≤◌, cond, List, [], ◌∷◌, length, take, Err, refl, sym, ap, ◌∙◌, arith, ⊎_elim}
 use Rattle.std.specs.Str.Lines.{lines}
 use Rattle.std.proofs.lemmas.List.{take_all, length-take-le}
 use Rattle.std.proofs.lemmas.Bool.{lt-ltb, cases_lt}
 use Rattle.var_types.specs.declared.call.Call.{Call}
-use Rattle.script_text.specs.declared.fault.ScriptFault.{ScriptFault}
-use Rattle.script_text.specs.declared.fault.ScriptFault.TheVariants.{TooLong}
-use Rattle.script_text.specs.Script.{script_of, one_processor, calls_from}
+use Rattle.script_text.specs.declared.script_fault.ScriptFault.TheVariants.{TooLong}
+use Rattle.script_text.specs.Script.{script_of, calls_from, most_script_bytes}
 
-one_of : (r : Result (List Call) ScriptFault) (script : List (List Call)) → one_processor r ≡ Ok script
-    → (calls : List Call) × (script ≡ calls ∷ [])
-one_of (Ok calls) script h = (calls, (cc))
-one_of (Err fault) script h = cc
-
-one_chosen : (b : Bool) (n : ℕ) (r : Result (List Call) ScriptFault) (script : List (List Call))
-    → cond b (Err (TooLong n)) (one_processor r) ≡ Ok script → (calls : List Call) × (script ≡ calls ∷ [])
-one_chosen true n r script h = cc
-one_chosen false n r script h = one_of r script h
-
--- a script has one processor
-pub script_of-one : (text : List ℕ) (script : List (List Call)) → script_of text ≡ Ok script → (calls : List Call) × (script ≡ calls ∷ [])
-unfolding script_of
-script_of-one text script h = one_chosen (nat_lt 1048576 (length text)) 1048576 (calls_from 1 20000 (lines text)) script h
+-- one list of calls
+pub one_of : (script : List (List Call)) → length script ≡ 1 → (calls : List Call) × (script ≡ calls ∷ [])
+one_of [] h = absurd (omega arith)
+one_of (calls ∷ []) h = (calls, refl)
+one_of (calls ∷ more ∷ rest) h = absurd (omega arith)
 
 -- a text that is too long is refused by its length alone
-script_of-long : (text : List ℕ) → 1048576 < length text → script_of text ≡ Err (TooLong 1048576)
+pub script_of-long : (text : List ℕ) → most_script_bytes < length text → script_of text ≡ Err (TooLong most_script_bytes)
 unfolding script_of
-script_of-long text h = ap (λ b. cond b (Err (TooLong 1048576)) (one_processor (calls_from 1 20000 (lines text)))) (lt-ltb 1048576 (length text) h)
+script_of-long text h =
+    ap (λ b. cond b (Err (TooLong most_script_bytes)) (calls_from 1 ([] ∷ []) (lines text))) (lt-ltb most_script_bytes (length text) h)
 
 -- where more than the limit is read, the rest says nothing more
-pub script_of-take : (n : ℕ) (text : List ℕ) → 1048576 < n → script_of (take n text) ≡ script_of text
+pub script_of-take : (n : ℕ) (text : List ℕ) → most_script_bytes < n → script_of (take n text) ≡ script_of text
 script_of-take n text h =
     ⊎_elim
     (λ (gt : n < length text). script_of-long (take n text) (let e : length (take n text) ≡ n = length-take-le n text (omega arith) in omega arith)

@@ -2,7 +2,8 @@ use Rattle.std.proofs.Common.{◌≡◌, ℕ, ◌+◌, List, [], ◌∷◌, ◌+
 use Rattle.std.proofs.lemmas.List.{append-nil}
 use Rattle.std.proofs.lemmas.List.Concat.{flat_map-append}
 use Rattle.std.proofs.lemmas.List.Folds.{flat_map-map}
-use Rattle.script_text.specs.Texts.{spaced, call_text, call_words_of, verdict_words}
+use Rattle.var_types.specs.Texts.{spaced}
+use Rattle.script_text.specs.Texts.{call_text, call_words_of, verdict_words}
 use Rattle.var_types.specs.declared.answered.Answered.{Answered}
 use Rattle.var_types.specs.declared.call.Call.{Call}
 use Rattle.var_types.specs.declared.call.Call.TheVariants as call
@@ -15,6 +16,7 @@ use Rattle.report_text.specs.declared.word.Word.{Word}
 use Rattle.report_text.specs.declared.word.Word.TheVariants as word
 use Rattle.varsvc.specs.Replies.{reply_text}
 use Rattle.varsvc.specs.Report.{entry_line, history_lines, route_word, answer_line, indexed, processor_lines, session_text}
+use Rattle.report_text.specs.Line.{line_text}
 use Rattle.report_text.specs.Word.{word_text}
 use Rattle.varsvc.proofs.ReplyWords.{reply_words, reply_text-words, HaveWords-reply}
 use Rattle.varsvc.proofs.SameWords.{HaveWords, ended, AreLines-append}
@@ -81,10 +83,11 @@ lines-ended first last xs =
     ∙ sym (flat_map-append ended (answer_texts 0 xs) (last ∷ [])))
 
 -- all lines
-pub session_text-lines : (xs : List Answered) → session_text xs ≡ flat_map ended (first_lines xs ++ last_lines xs)
+pub session_text-lines : (xs : List Answered) → session_text (history_of xs) (xs ∷ []) ≡ flat_map ended (first_lines xs ++ last_lines xs)
 unfolding session_text processor_lines
 session_text-lines xs =
-    ap (λ (t : List ℕ). history_lines (history_of xs) ++ t) (lines-ended (spaced (processor_words (length xs))) (word_text word.End) xs)
+    ap (λ (t : List ℕ). history_lines (history_of xs) ++ (t ++ line_text (word_text word.End ∷ []))) (append-nil (processor_lines 0 xs))
+    ∙ ap (λ (t : List ℕ). history_lines (history_of xs) ++ t) (lines-ended (spaced (processor_words (length xs))) (word_text word.End) xs)
     ∙ ap (λ (t : List ℕ). t ++ flat_map ended (last_lines xs)) (history_lines-ended xs)
     ∙ sym (flat_map-append ended (first_lines xs) (last_lines xs))
 

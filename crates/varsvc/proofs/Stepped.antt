@@ -9,7 +9,7 @@ use Rattle.var_types.specs.Step.{step, lacks_memory}
 
 -- one call was stepped from a state
 abbrev pub IsStepped : State → Answered → Type 0
-IsStepped state a = (a.place ≡ state.made) × (a.route ≡ Plain) × (lacks_memory a.reply ≡ false → a.reply ≡ (step state a.call).0)
+IsStepped state a = (a.place ≡ state.made) × (a.route ≡ Plain) × (lacks_memory a.call a.reply ≡ false → a.reply ≡ (step state a.call).0)
 
 -- one more call
 pub AreStepped-snoc : (state : State) (xs : List Answered) (a : Answered) → AreStepped state xs → IsStepped (state_left state xs) a
@@ -26,10 +26,10 @@ calls_of-snoc [] a = refl
 calls_of-snoc (x ∷ xs) a = ap (λ calls. x.call ∷ calls) (calls_of-snoc xs a)
 
 -- what a call of the service leaves is the state after it
-pub state_after-step : (old new : State) (a : Answered) → (lacks_memory a.reply ≡ false → (a.reply, new) ≡ step old a.call)
-    → (lacks_memory a.reply ≡ true → new ≡ old) → state_after old a ≡ new
+pub state_after-step : (old new : State) (a : Answered) → (lacks_memory a.call a.reply ≡ false → (a.reply, new) ≡ step old a.call)
+    → (lacks_memory a.call a.reply ≡ true → new ≡ old) → state_after old a ≡ new
 state_after-step old new a done memory =
-    elim (lacks_memory a.reply)
+    elim (lacks_memory a.call a.reply)
     as (λ b. (b ≡ false → (a.reply, new) ≡ step old a.call) → (b ≡ true → new ≡ old) → (if b then old else (step old a.call).1) ≡ new) [
       | true ↦ λ d m. sym (m refl)
       | false ↦ λ d m. ap (λ (p : Reply × State). p.1) (sym (d refl))

@@ -10,9 +10,7 @@ use Rattle.uuid.specs.Parts.{swap_fields}
 use Rattle.uuid.specs.Text.{by_index, hex_digit, hyphen, is_hyphen_place, digit_place, lower, nibble}
 use Rattle.var_types.specs.declared.guid.Guid.{Guid}
 use Rattle.var_types.specs.Guid.{guid_text}
-use Rattle.script_text.specs.Names.{is_plain}
-use Rattle.script_text.specs.Numbers.{is_dash}
-use Rattle.script_text.specs.Texts.{spaced, attributes_text, bytes_text, escaped_text, unit_text, name_text}
+use Rattle.var_types.specs.Texts.{attributes_text, bytes_text, escaped_text, is_dash, is_plain, name_text, spaced, unit_text}
 use Rattle.report_text.specs.declared.word.Word.{Word}
 use Rattle.report_text.specs.declared.word.Word.TheVariants as word
 use Rattle.report_text.specs.Word.{word_text}

@@ -1,10 +1,10 @@
 use Rattle.std.specs.Prelude.{ℕ, List, [], ◌∷◌, decimal}
 use Rattle.flash_dev.specs.declared.image_fault.ImageFault.{ImageFault}
 use Rattle.flash_dev.specs.declared.image_fault.ImageFault.TheVariants as image
-use Rattle.script_text.specs.declared.fault.ScriptFault.{ScriptFault}
-use Rattle.script_text.specs.declared.fault.ScriptFault.TheVariants as script
-use Rattle.script_text.specs.declared.reason.LineReason.{LineReason}
-use Rattle.script_text.specs.declared.reason.LineReason.TheVariants as reason
+use Rattle.script_text.specs.declared.script_fault.ScriptFault.{ScriptFault}
+use Rattle.script_text.specs.declared.script_fault.ScriptFault.TheVariants as script
+use Rattle.script_text.specs.declared.line_reason.LineReason.{LineReason}
+use Rattle.script_text.specs.declared.line_reason.LineReason.TheVariants as reason
 use Rattle.varsvc.specs.declared.usage.UsageFault.{UsageFault}
 use Rattle.varsvc.specs.declared.usage.UsageFault.TheVariants as usage
 use Rattle.report_text.specs.declared.word.Word.{Word}
@@ -12,7 +12,7 @@ use Rattle.report_text.specs.declared.word.Word.TheVariants as word
 use Rattle.report_text.specs.Line.{line_text}
 use Rattle.report_text.specs.Word.{word_text}
 
--- the line for want of memory
+-- the line that there is no memory
 unfoldable pub memory_line : List ℕ
 memory_line = line_text (word_text word.No ∷ word_text word.Memory ∷ [])
 

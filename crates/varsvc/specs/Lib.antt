@@ -3,6 +3,10 @@ pub mod FaultLines
 pub mod Replies
 pub mod Report
 pub mod Input
+pub mod Values
+pub mod Fitting
+pub mod Runs
+pub mod Images
 pub mod Outcome
 pub mod Plan
-pub mod Fitting
+pub mod RunPlan

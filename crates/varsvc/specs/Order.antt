@@ -1,4 +1,4 @@
-use Rattle.std.specs.Prelude.{◌≡◌, ◌⊎◌, ℕ, ◌+◌, ◌==◌, Bool, false, List, [], ◌∷◌, codes, position, if◌then◌else◌, map, string_bytes, String, Option, Some, None, Result, Ok, Err, IsOk}
+use Rattle.std.specs.Prelude.{◌≡◌, ℕ, ◌+◌, ◌==◌, Bool, false, List, [], ◌∷◌, codes, position, if◌then◌else◌, map, string_bytes, String, Option, Some, None, Result, Ok, Err, IsOk}
 use Rattle.std.specs.declared.alloc.Global.{Global}
 use Rattle.varsvc.specs.declared.order.Order.{Order}
 use Rattle.varsvc.specs.declared.order.Order.TheVariants as order
@@ -59,7 +59,7 @@ unfoldable pub order_of : List (List ℕ) → Result Order UsageFault
 order_of [] = Err usage.NoVerb
 order_of (verb ∷ words) = first_order (verb_of verb) words
 
--- a refusal is the one that the words have; memory is wanting only where they are accepted
+-- a refusal is the one that the words have; the reading is out of memory only where they are accepted
 abbrev pub IsUsage : UsageFault → Result Order UsageFault → Type 0
 IsUsage usage.OutOfMemory read = IsOk read
 IsUsage usage.NoVerb read = read ≡ Err usage.NoVerb
@@ -68,33 +68,14 @@ IsUsage (usage.Dash at) read = read ≡ Err (usage.Dash at)
 IsUsage (usage.Missing want have) read = read ≡ Err (usage.Missing want have)
 IsUsage (usage.Extra at) read = read ≡ Err (usage.Extra at)
 
--- what was returned is what the words ask for, but for want of memory
+-- what was returned is what the words ask for, but out of memory
 abbrev pub GivesOrder : Result Order UsageFault → Result Order UsageFault → Type 0
 GivesOrder (Ok order) read = read ≡ Ok order
 GivesOrder (Err e) read = IsUsage e read
 
--- the words ask to run a script, or to list or format an image, or they are refused
+-- the words ask to run a script
 abbrev pub IsRunOrder : Result Order UsageFault → Type 0
-IsRunOrder (Ok (order.Run image)) = Unit {0}
-IsRunOrder (Ok (order.List image)) = ⊥
-IsRunOrder (Ok (order.Format image)) = ⊥
-IsRunOrder (Err fault) = ⊥
-
-abbrev pub IsListOrder : Result Order UsageFault → Type 0
-IsListOrder (Ok (order.Run image)) = ⊥
-IsListOrder (Ok (order.List image)) = Unit {0}
-IsListOrder (Ok (order.Format image)) = ⊥
-IsListOrder (Err fault) = ⊥
-
-abbrev pub IsFormatOrder : Result Order UsageFault → Type 0
-IsFormatOrder (Ok (order.Run image)) = ⊥
-IsFormatOrder (Ok (order.List image)) = ⊥
-IsFormatOrder (Ok (order.Format image)) = Unit {0}
-IsFormatOrder (Err fault) = ⊥
-
--- the words ask for something on an image that is opened: to list it, or to format it
-abbrev pub OpensImage : Result Order UsageFault → Type 0
-OpensImage read = IsListOrder read ⊎ IsFormatOrder read
+IsRunOrder read = (image : List ℕ) × (read ≡ Ok (order.Run image))
 
 -- what the words of the command line ask for, as the program is given them
 abbrev pub asked : List (String Global) → Result Order UsageFault

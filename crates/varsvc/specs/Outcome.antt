@@ -1,182 +1,211 @@
-use Rattle.std.specs.Prelude.{◌≡◌, ◌≢◌, ◌⊎◌, ℕ, Bool, true, false, List, [], ◌∷◌, length, max, Option, Result, Ok, Err, IsErr, IsOk, IfSome, IsSomeAnd}
-use Rattle.std.specs.Io.KnownBytes.{Appends}
-use Rattle.std.specs.List.{list_any}
-use Rattle.flash_dev.specs.declared.image_fault.ImageFault.{ImageFault}
-use Rattle.flash_dev.specs.declared.image_fault.ImageFault.TheVariants.{Device, ImageSize}
-use Rattle.flash_dev.specs.Geometry.{image_geometry}
-use Rattle.flash_dev.specs.Layout.{image_size}
+-- What a call of the program prints and leaves, by what its words ask for and by the status that it ends with.
+use Rattle.std.specs.Prelude.{◌≡◌, ◌≢◌, ◌⊎◌, ℕ, Bool, true, false, List, Option, Result, Ok, Err, IsTrue}
+use Rattle.std.specs.Io.KnownBytes.{Appends, IsAtEnd}
+use Rattle.flash_dev.specs.Blank.{blank_image}
+use Rattle.flash_dev.specs.Formatting.{IsFormatLeft}
+use Rattle.flash_dev.specs.Moments.{Stays}
+use Rattle.flash_dev.specs.Rules.{IsKept, Leaves}
 use Rattle.outside.specs.Faults.{HasRisen}
 use Rattle.outside.specs.Written.{AppendsPart}
-use Rattle.report_text.specs.Listing.{listing_text}
-use Rattle.script_text.specs.declared.fault.ScriptFault.{ScriptFault}
-use Rattle.script_text.specs.Script.{script_of}
-use Rattle.var_types.specs.declared.answered.Answered.{Answered}
-use Rattle.var_types.specs.Kept.{kept}
-use Rattle.var_types.specs.Session.{AreStepped, calls_of}
-use Rattle.var_types.specs.State.{start}
-use Rattle.var_types.specs.Step.{lacks_memory}
+use Rattle.var_types.specs.Layout.{image_size}
 use Rattle.varsvc.specs.declared.order.Order.{Order}
 use Rattle.varsvc.specs.declared.order.Order.TheVariants as order
 use Rattle.varsvc.specs.declared.usage.UsageFault.{UsageFault}
-use Rattle.varsvc.specs.FaultLines.{device_line, image_line, input_line, memory_line, script_line, usage_line}
+use Rattle.varsvc.specs.FaultLines.{device_line, input_line, memory_line, usage_line}
+use Rattle.varsvc.specs.Input.{TakesAtMost, most_read}
+use Rattle.varsvc.specs.Images.{Formats, IsImage, IsNoImage, Lists, RefusesFormat, RefusesList}
 use Rattle.varsvc.specs.Order.{IsRunOrder}
-use Rattle.varsvc.specs.Report.{session_text}
+use Rattle.varsvc.specs.Runs.{IsNoScript, IsScript, RefusesScript, Reports}
 
--- the session of an input: its script's calls, in order, were stepped through the one-thread service, which starts with no variable and
--- makes as many changes at most as there are calls, at least 1; want of memory alone is excepted (this project's own)
-pub record IsSessionOf (input : List ℕ) (answered : List Answered) : Type 0 where
-  pub script : script_of input ≡ Ok (calls_of answered ∷ [])
-  pub stepped : AreStepped (start [] (max (length answered) 1)) answered
+-- no text
+abbrev pub NoText : List ℕ → Type 0
+NoText text = ⊥
 
--- whether memory was wanting for some reply of a session
-abbrev pub lacks_any : List Answered → Bool
-lacks_any answered = list_any (λ a. lacks_memory a.reply) answered
+-- what a verb does, as its line of the table of verbs
+pub record Row : Type 1 where
+  -- the texts that it prints where all is done, and where it refuses its words, its script or its image
+  pub output : List ℕ → Type 0
+  pub usage : List ℕ → Type 0
+  pub script : List ℕ → Type 0
+  pub image : List ℕ → Type 0
+  -- the reports that it prints where replies are out of memory
+  pub lacking : List ℕ → Type 0
+  -- whether it reads the source, opens the image, and prints anything where all is done
+  pub reads : Bool
+  pub opens : Bool
+  pub prints : Bool
+  -- how the image stands to the one that it was given: where all is done, and at any moment of the call
+  pub done : List ℕ → List ℕ → Type 0
+  pub leaves : List ℕ → List ℕ → Type 0
+  -- it is given what it accepts, or what it refuses, and the status of that refusal
+  pub accepted : Type 0
+  pub refused : Type 0
+  pub refusal : ℕ
 
--- the words are refused, and this line says why
-abbrev pub RefusesWords : Result Order UsageFault → List ℕ → Type 0
-RefusesWords order text = (fault : UsageFault) × (order ≡ Err fault) × (text ≡ usage_line fault)
+-- running a script, as yet without its image
+abbrev pub run_row : Option (List ℕ) → Row
+run_row input = record {
+  output = Reports input false;
+  usage = NoText;
+  script = RefusesScript input;
+  image = NoText;
+  lacking = Reports input true;
+  reads = true;
+  opens = false;
+  prints = true;
+  done = IsKept;
+  leaves = IsKept;
+  accepted = IsScript input;
+  refused = IsNoScript input;
+  refusal = 3;
+}
 
--- the input that is told is no script, and this line says why
-abbrev pub RefusesScript : Option (List ℕ) → List ℕ → Type 0
-RefusesScript left text = IfSome left (λ input. (fault : ScriptFault) × (script_of input ≡ Err fault) × (text ≡ script_line fault))
+-- listing an image
+abbrev pub list_row : Option (List ℕ) → ℕ → Row
+list_row image size = record {
+  output = Lists image size;
+  usage = NoText;
+  script = NoText;
+  image = RefusesList image size;
+  lacking = NoText;
+  reads = false;
+  opens = true;
+  prints = true;
+  done = IsKept;
+  leaves = IsKept;
+  accepted = IsImage image;
+  refused = IsNoImage image;
+  refusal = 4;
+}
 
--- a read of the input failed, and this line says so
-abbrev pub FailsRead : ℕ → ℕ → List ℕ → Type 0
-FailsRead old new text = HasRisen old new × (text ≡ input_line)
+-- formatting an image
+abbrev pub format_row : ℕ → Row
+format_row size = record {
+  output = Formats size;
+  usage = NoText;
+  script = NoText;
+  image = RefusesFormat size;
+  lacking = NoText;
+  reads = false;
+  opens = true;
+  prints = false;
+  done = λ _ left. left ≡ blank_image;
+  leaves = IsFormatLeft;
+  accepted = size ≡ image_size;
+  refused = size ≢ image_size;
+  refusal = 4;
+}
 
--- this is the report of the session of the input that is told; memory was wanting for some reply, or for none
-abbrev pub Reports : Option (List ℕ) → Bool → List ℕ → Type 0
-Reports left lacking text =
-    IfSome left (λ input. (answered : List Answered) × IsSessionOf input answered × (lacks_any answered ≡ lacking) × (text ≡ session_text answered))
+-- words that are refused
+abbrev pub usage_row : UsageFault → Row
+usage_row fault = record {
+  output = NoText;
+  usage = λ text. text ≡ usage_line fault;
+  script = NoText;
+  image = NoText;
+  lacking = NoText;
+  reads = false;
+  opens = false;
+  prints = true;
+  done = IsKept;
+  leaves = IsKept;
+  accepted = ⊥;
+  refused = Unit {0};
+  refusal = 2;
+}
 
--- this is the listing of the variables that the image keeps that is told, which is accepted
-abbrev pub Lists : Option (List ℕ) → List ℕ → Type 0
-Lists image text = IfSome image (λ bytes. IsOk (image_geometry bytes) × (text ≡ listing_text (kept bytes)))
+-- the table of verbs: what is done, by what the words ask for, what is told of source and image, and the image's length (this project's own)
+abbrev pub row : Result Order UsageFault → Option (List ℕ) → Option (List ℕ) → ℕ → Row
+row (Ok (order.Run name)) input image size = run_row input
+row (Ok (order.List name)) input image size = list_row image size
+row (Ok (order.Format name)) input image size = format_row size
+row (Err fault) input image size = usage_row fault
 
--- an image of this length is refused for this fault: for its length, else for the first that the image has that is told
-pub record IsFaultOf (image : Option (List ℕ)) (size : ℕ) (fault : ImageFault) : Type 0 where
-  pub told : IfSome image (λ bytes. image_geometry bytes ≡ Err fault)
-  pub by_length : size ≢ image_size → fault ≡ ImageSize size image_size
-  pub is_image : fault ≢ Device
+-- the text that goes with a status; a failed write decides the status afterwards, so that this is never 5 (this project's own)
+pub record IsText (r : Row) (status : ℕ) (text : List ℕ) : Type 0 where
+  pub known : (status ≡ 0) ⊎ ((status ≡ 2) ⊎ ((status ≡ 3) ⊎ ((status ≡ 4) ⊎ ((status ≡ 6) ⊎ ((status ≡ 7) ⊎ (status ≡ 8))))))
+  pub done : status ≡ 0 → r.output text
+  pub usage : status ≡ 2 → r.usage text
+  pub script : status ≡ 3 → r.script text
+  pub image : status ≡ 4 → r.image text
+  pub input : status ≡ 6 → IsTrue r.reads × (text ≡ input_line)
+  pub device : status ≡ 7 → IsTrue r.opens × (text ≡ device_line)
+  pub memory : status ≡ 8 → (text ≡ memory_line) ⊎ r.lacking text
 
--- the image is refused, and this line says why: to be listed, by its length and its headers; to be formatted, by its length alone
-abbrev pub RefusesList : Option (List ℕ) → ℕ → List ℕ → Type 0
-RefusesList image size text = (fault : ImageFault) × IsFaultOf image size fault × (text ≡ image_line fault)
+-- a status comes exactly where a call of one kind failed: then the count of failed calls rose, and else it stands
+pub record FailsAt (fault status before after : ℕ) : Type 0 where
+  pub rose : status ≡ fault → HasRisen before after
+  pub stands : status ≢ fault → after ≡ before
 
-abbrev pub RefusesFormat : ℕ → List ℕ → Type 0
-RefusesFormat size text = (size ≢ image_size) × (text ≡ image_line (ImageSize size image_size))
-
-abbrev pub RefusesImage : Result Order UsageFault → Option (List ℕ) → ℕ → List ℕ → Type 0
-RefusesImage (Ok (order.Run name)) image size text = ⊥
-RefusesImage (Ok (order.List name)) image size text = RefusesList image size text
-RefusesImage (Ok (order.Format name)) image size text = RefusesFormat size text
-RefusesImage (Err fault) image size text = ⊥
-
--- a call of the flash failed, and this line says so
-abbrev pub FailsFlash : ℕ → ℕ → List ℕ → Type 0
-FailsFlash old new text = HasRisen old new × (text ≡ device_line)
-
--- memory was wanting: this line says so, or, of a run, it is a report where memory was wanting for some reply
-abbrev pub LacksMemory : Result Order UsageFault → Option (List ℕ) → List ℕ → Type 0
-LacksMemory order left text = (text ≡ memory_line) ⊎ (IsRunOrder order × Reports left true text)
-
--- what is printed where all was done, and of an image of which length: of a run its report, of a list its listing, and of a format nothing
-abbrev pub ListsSized : Option (List ℕ) → ℕ → List ℕ → Type 0
-ListsSized image size text = (size ≡ image_size) × Lists image text
-
-abbrev pub FormatsSized : ℕ → List ℕ → Type 0
-FormatsSized size text = (size ≡ image_size) × (text ≡ [])
-
-abbrev pub IsOutput : Result Order UsageFault → Option (List ℕ) → Option (List ℕ) → ℕ → List ℕ → Type 0
-IsOutput (Ok (order.Run name)) left image size text = Reports left false text
-IsOutput (Ok (order.List name)) left image size text = ListsSized image size text
-IsOutput (Ok (order.Format name)) left image size text = FormatsSized size text
-IsOutput (Err fault) left image size text = ⊥
-
--- the status and the text of a run: 0 and the report; 3 and why the script is refused; 6 and that a read failed; or 8, where memory was
--- wanting (this project's own)
-pub record IsRun (left : Option (List ℕ)) (old new status : ℕ) (text : List ℕ) : Type 0 where
-  pub known : (status ≡ 0) ⊎ ((status ≡ 3) ⊎ ((status ≡ 6) ⊎ (status ≡ 8)))
-  pub reports : status ≡ 0 → Reports left false text
-  pub script : status ≡ 3 → RefusesScript left text
-  pub input : status ≡ 6 → FailsRead old new text
-  pub memory : status ≡ 8 → (text ≡ memory_line) ⊎ Reports left true text
-
--- the status and the text of what is done with an image alone: 0 and the output; 4 and why the image is refused, where no call of the flash
--- failed; 7 and that one failed; or 8, where memory was wanting (this project's own)
-pub record IsDoneWith (IsPrinted IsRefusal : List ℕ → Type 0) (old new status : ℕ) (text : List ℕ) : Type 0 where
-  pub known : (status ≡ 0) ⊎ ((status ≡ 4) ⊎ ((status ≡ 7) ⊎ (status ≡ 8)))
-  pub printed : status ≡ 0 → IsPrinted text
-  pub refused : status ≡ 4 → IsRefusal text × (new ≡ old)
-  pub device : status ≡ 7 → FailsFlash old new text
-  pub memory : status ≡ 8 → text ≡ memory_line
-
--- the status and the text of a list, and of a format
-abbrev pub IsListed : Option (List ℕ) → ℕ → ℕ → ℕ → ℕ → List ℕ → Type 0
-IsListed image size old new status text = IsDoneWith (ListsSized image size) (RefusesList image size) old new status text
-
-abbrev pub IsFormatted : ℕ → ℕ → ℕ → ℕ → List ℕ → Type 0
-IsFormatted size old new status text = IsDoneWith (FormatsSized size) (RefusesFormat size) old new status text
-
--- the status and the text of refused words: 2 and why; or 8, where memory was wanting for that line (this project's own)
-abbrev pub IsRefused : UsageFault → ℕ → List ℕ → Type 0
-IsRefused fault status text = ((status ≡ 2) × (text ≡ usage_line fault)) ⊎ ((status ≡ 8) × (text ≡ memory_line))
-
--- the status and the text of a call of the program that runs no script, from what its words ask for, what is told of its image, and how often
--- the flash had failed before it and has after it (this project's own)
-abbrev pub IsPlainlyPlanned : Result Order UsageFault → Option (List ℕ) → ℕ → ℕ → ℕ → ℕ → List ℕ → Type 0
-IsPlainlyPlanned (Ok (order.Run name)) image size old new status text = ⊥
-IsPlainlyPlanned (Ok (order.List name)) image size old new status text = IsListed image size old new status text
-IsPlainlyPlanned (Ok (order.Format name)) image size old new status text = IsFormatted size old new status text
-IsPlainlyPlanned (Err fault) image size old new status text = IsRefused fault status text
-
--- how often source and flash had failed before a call of the program, and have after it
+-- how often calls of source, sink and flash had failed before a call of the program, and have after it
 pub record Counts : Type 0 where
   pub source_before : ℕ
   pub source_after : ℕ
+  pub sink_before : ℕ
+  pub sink_after : ℕ
   pub flash_before : ℕ
   pub flash_after : ℕ
 
--- the status and the text of any call of the program, from what its words ask for, and from what is told of its input and its image (this
--- project's own)
-abbrev pub IsPlanned : Result Order UsageFault → Option (List ℕ) → Option (List ℕ) → ℕ → Counts → ℕ → List ℕ → Type 0
-IsPlanned (Ok (order.Run name)) left image size counts status text = IsRun left counts.source_before counts.source_after status text
-IsPlanned (Ok (order.List name)) left image size counts status text = IsListed image size counts.flash_before counts.flash_after status text
-IsPlanned (Ok (order.Format name)) left image size counts status text = IsFormatted size counts.flash_before counts.flash_after status text
-IsPlanned (Err fault) left image size counts status text = IsRefused fault status text
+-- a status that is planned, with its text and its cause
+pub record IsPlanned (r : Row) (counts : Counts) (status : ℕ) (text : List ℕ) : Type 0 where
+  pub is_text : IsText r status text
+  pub source : FailsAt 6 status counts.source_before counts.source_after
+  pub flash : FailsAt 7 status counts.flash_before counts.flash_after
 
--- a status that the program may end with
-abbrev pub IsStatus : ℕ → Type 0
-IsStatus status =
-    (status ≡ 0) ⊎ ((status ≡ 2) ⊎ ((status ≡ 3) ⊎ ((status ≡ 4) ⊎ ((status ≡ 5) ⊎ ((status ≡ 6) ⊎ ((status ≡ 7) ⊎ (status ≡ 8)))))))
+-- what is printed: the text of the status; or, where the sink failed, a front of the text of a status that was planned
+pub record Prints (r : Row) (counts : Counts) (status : ℕ) (old new : Option (List ℕ)) : Type 0 where
+  pub sink : FailsAt 5 status counts.sink_before counts.sink_after
+  pub whole : status ≢ 5 → (text : List ℕ) × IsPlanned r counts status text × Appends old new text
+  pub part : status ≡ 5 → (planned : ℕ) × (text : List ℕ) × IsPlanned r counts planned text × AppendsPart old new text
 
--- a status that it may end with where it runs no script
-abbrev pub IsPlainStatus : ℕ → Type 0
-IsPlainStatus status = (status ≡ 0) ⊎ ((status ≡ 2) ⊎ ((status ≡ 4) ⊎ ((status ≡ 5) ⊎ ((status ≡ 7) ⊎ (status ≡ 8)))))
+-- how much is read of a source: no more than one byte more than a script may have, and all of it where a verb that reads is done
+pub record ReadsInput (r : Row) (status : ℕ) (old new : Option (List ℕ)) : Type 0 where
+  pub most : TakesAtMost most_read old new
+  pub whole : IsTrue r.reads → status ≡ 0 → IsAtEnd new
 
--- a text that is printed at some status
-abbrev pub IsPlainText : Result Order UsageFault → Option (List ℕ) → ℕ → ℕ → ℕ → List ℕ → Type 0
-IsPlainText order image size old new text = (status : ℕ) × IsPlainlyPlanned order image size old new status text
+-- what becomes of an image of so many bytes: where all is done, and where a call of the flash failed; it keeps its bytes where it is refused,
+-- where its length is another than an image's, and where the call is out of memory
+pub record LeavesImage (r : Row) (status size : ℕ) (old new : Option (List ℕ)) : Type 0 where
+  pub done : status ≡ 0 → Leaves r.done old new
+  pub device : status ≡ 7 → Leaves r.leaves old new
+  pub refused : status ≡ 4 → new ≡ old
+  pub other_size : size ≢ image_size → new ≡ old
+  pub memory : status ≡ 8 → new ≡ old
 
-abbrev pub IsAnyText : Result Order UsageFault → Option (List ℕ) → Option (List ℕ) → ℕ → Counts → List ℕ → Type 0
-IsAnyText order left image size counts text = (status : ℕ) × IsPlanned order left image size counts status text
+-- what a call of the program does with its source, its sink and its flash, by what its words ask for (this project's own)
+pub record Performs {S K F : Type 0} (left : S → Option (List ℕ)) (read_faults : S → ℕ) (printed : K → Option (List ℕ)) (write_faults : K → ℕ)
+    (holds : F → Option (List ℕ)) (size flash_faults moment : F → ℕ) (left_since : F → ℕ → List ℕ → Type 0) (asked : Result Order UsageFault)
+    (source source_after : S) (sink sink_after : K) (flash flash_after : F) (status : ℕ) : Type 0 where
+  -- what is printed, with the cause of the status
+  pub prints : Prints (row asked (left source) (holds flash) (size flash)) (record {
+    source_before = read_faults source;
+    source_after = read_faults source_after;
+    sink_before = write_faults sink;
+    sink_after = write_faults sink_after;
+    flash_before = flash_faults flash;
+    flash_after = flash_faults flash_after;
+  }) status (printed sink) (printed sink_after)
+  -- where nothing is to be printed, nothing is written
+  pub quiet : (row asked (left source) (holds flash) (size flash)).prints ≡ false → status ≡ 0 → sink_after ≡ sink
+  -- how much is read: nothing, but by a run
+  pub reads : ReadsInput (row asked (left source) (holds flash) (size flash)) status (left source) (left source_after)
+  pub unread : ¬ IsRunOrder asked → source_after ≡ source
+  -- what becomes of the image, and what a power loss may leave of it
+  pub leaves : LeavesImage (row asked (left source) (holds flash) (size flash)) status (size flash) (holds flash) (holds flash_after)
+  pub at_any_moment : Stays (row asked (left source) (holds flash) (size flash)).leaves moment left_since holds flash flash_after
+  pub unopened : (row asked (left source) (holds flash) (size flash)).opens ≡ false → flash_after ≡ flash
+  pub same_size : size flash_after ≡ size flash
 
--- a text of this kind was printed
-abbrev pub Prints : (List ℕ → Type 0) → Option (List ℕ) → Option (List ℕ) → Type 0
-Prints IsKind old new = (text : List ℕ) × IsKind text × Appends old new text
+-- no call of what a verb touches failed
+pub record IsCalm (r : Row) (counts : Counts) : Type 0 where
+  pub source : IsTrue r.reads → ¬ HasRisen counts.source_before counts.source_after
+  pub sink : ¬ HasRisen counts.sink_before counts.sink_after
+  pub flash : IsTrue r.opens → ¬ HasRisen counts.flash_before counts.flash_after
 
--- a front of a text of this kind was printed
-abbrev pub PrintsPart : (List ℕ → Type 0) → Option (List ℕ) → Option (List ℕ) → Type 0
-PrintsPart IsKind old new = (text : List ℕ) × IsKind text × AppendsPart old new text
-
--- the input is told and is a script
-abbrev pub IsScript : Option (List ℕ) → Type 0
-IsScript left = IsSomeAnd left (λ input. IsOk (script_of input))
-
--- the image is told and is accepted
-abbrev pub IsImage : Option (List ℕ) → Type 0
-IsImage image = IsSomeAnd image (λ bytes. IsOk (image_geometry bytes))
-
--- the image is told and is refused to be listed
-abbrev pub IsNoImage : Option (List ℕ) → Type 0
-IsNoImage image = IsSomeAnd image (λ bytes. IsErr (image_geometry bytes))
+-- where no call fails, what is accepted is done, and what is refused ends with its refusal, unless the call is out of memory (this project's own)
+abbrev pub CallsAreJudged : Type 0
+CallsAreJudged =
+    (asked : Result Order UsageFault) (input image : Option (List ℕ)) (size : ℕ) (counts : Counts) (status : ℕ) (old new : Option (List ℕ))
+    → Prints (row asked input image size) counts status old new → IsCalm (row asked input image size) counts
+    → ((row asked input image size).accepted → (status ≡ 0) ⊎ (status ≡ 8))
+    × ((row asked input image size).refused → (status ≡ (row asked input image size).refusal) ⊎ (status ≡ 8))

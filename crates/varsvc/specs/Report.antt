@@ -4,7 +4,7 @@ use Rattle.var_types.specs.declared.answered.Answered.{Answered}
 use Rattle.var_types.specs.declared.answered.Route.{Route}
 use Rattle.var_types.specs.declared.answered.Route.TheVariants.{Plain}
 use Rattle.var_types.specs.History.{Entry}
-use Rattle.var_types.specs.Session.{history_of, entry_of}
+use Rattle.var_types.specs.Session.{entry_of}
 use Rattle.var_types.specs.Step.{is_change}
 use Rattle.report_text.specs.declared.word.Word.{Word}
 use Rattle.report_text.specs.declared.word.Word.TheVariants as word
@@ -18,7 +18,7 @@ entry_line entry = line_text (decimal entry.number ∷ decimal entry.processor �
 
 -- the line of the change that an answered call makes, if it makes one
 abbrev pub change_lines : ℕ → Answered → List ℕ
-change_lines index a = if is_change a.reply then entry_line (entry_of index a) else []
+change_lines index a = if is_change a.reply then entry_line (entry_of 0 index a) else []
 
 -- the lines of a history: how many changes, and each of them (this project's own)
 unfoldable pub history_lines : List Entry → List ℕ
@@ -38,12 +38,16 @@ abbrev pub indexed : (ℕ → Answered → List ℕ) → ℕ → List Answered �
 indexed text index [] = []
 indexed text index (a ∷ rest) = text index a ++ indexed text (index + 1) rest
 
--- the lines of processor 0: how many calls, and each reply (this project's own)
-unfoldable pub processor_lines : List Answered → List ℕ
-processor_lines answered =
-    line_text (word_text word.Processor ∷ decimal 0 ∷ word_text word.Calls ∷ decimal (length answered) ∷ []) ++ indexed answer_line 0 answered
+-- the lines of a processor: its number, how many calls it made, and each reply (this project's own)
+unfoldable pub processor_lines : ℕ → List Answered → List ℕ
+processor_lines processor answered =
+    line_text (word_text word.Processor ∷ decimal processor ∷ word_text word.Calls ∷ decimal (length answered) ∷ []) ++ indexed answer_line 0 answered
 
--- the report of a session: its history, the replies, and the end (this project's own)
-unfoldable pub session_text : List Answered → List ℕ
-session_text answered =
-    history_lines (history_of answered) ++ (processor_lines answered ++ line_text (word_text word.End ∷ []))
+-- the lines of processors, the first of which has this number
+abbrev pub processors_text : ℕ → List (List Answered) → List ℕ
+processors_text processor [] = []
+processors_text processor (answered ∷ rest) = processor_lines processor answered ++ processors_text (processor + 1) rest
+
+-- the report of a session: its history, the replies to each processor, and the end (this project's own)
+unfoldable pub session_text : List Entry → List (List Answered) → List ℕ
+session_text history processors = history_lines history ++ (processors_text 0 processors ++ line_text (word_text word.End ∷ []))

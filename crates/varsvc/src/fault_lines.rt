@@ -1,41 +1,33 @@
-ghost use Rattle.std.specs.Prelude.{◌≡◌, ◌++◌, [], ◌∷◌, decimal, OnOk};
+ghost use Rattle.std.specs.Prelude.{◌≡◌, [], ◌∷◌, decimal};
 ghost use Rattle.report_text.specs.Line.{line_text};
 ghost use Rattle.report_text.specs.Word.{word_text};
-ghost use Rattle.varsvc.specs.FaultLines.{usage_line, script_line, input_line, memory_line, device_line, image_line, reason_word};
+ghost use Rattle.varsvc.specs.FaultLines.{usage_line, script_line, memory_line, device_line, image_line, reason_word};
 
 use crate::usage::UsageFault;
 use flash_dev::ImageFault;
 use report_text::{Part, Word, write_line};
 use script_text::{LineReason, ScriptFault};
-use var_types::{Bytes, OutOfMemory};
+use var_types::Put;
 
-/// Appends the line for want of memory.
+/// Puts the line that there is no memory.
 #[tactic(auto, unfolding(crate::specs::FaultLines::memory_line))]
-pub fn write_memory_line(out: &mut Bytes) -> Result<(), OutOfMemory>
-    ensures { OnOk result (out.new ≡ out.old ++ memory_line) }
+pub fn write_memory_line<P: Put>(out: &mut P)
+    ensures { P.Puts out.old out.new memory_line }
 {
     write_line(&[Part::Word(Word::No), Part::Word(Word::Memory)], out)
 }
 
-/// Appends the line for a failed read of the input.
-#[tactic(auto, unfolding(crate::specs::FaultLines::input_line))]
-pub fn write_input_line(out: &mut Bytes) -> Result<(), OutOfMemory>
-    ensures { OnOk result (out.new ≡ out.old ++ input_line) }
-{
-    write_line(&[Part::Word(Word::Input), Part::Word(Word::Fault)], out)
-}
-
-/// Appends the line for a failed call of the flash.
+/// Puts the line for a failed call of the flash.
 #[tactic(auto, unfolding(crate::specs::FaultLines::device_line))]
-pub fn write_device_line(out: &mut Bytes) -> Result<(), OutOfMemory>
-    ensures { OnOk result (out.new ≡ out.old ++ device_line) }
+pub fn write_device_line<P: Put>(out: &mut P)
+    ensures { P.Puts out.old out.new device_line }
 {
     write_line(&[Part::Word(Word::Device), Part::Word(Word::Fault)], out)
 }
 
-// Appends the word of a refused image, that of what refuses it, and its number.
-fn write_image_number(word: Word, number: u64, out: &mut Bytes) -> Result<(), OutOfMemory>
-    ensures { OnOk result (out.new ≡ out.old ++ line_text (word_text Word.Image ∷ word_text word ∷ decimal number ∷ [])) }
+// Puts the word of a refused image, that of what refuses it, and its number.
+fn write_image_number<P: Put>(word: Word, number: u64, out: &mut P)
+    ensures { P.Puts out.old out.new (line_text (word_text Word.Image ∷ word_text word ∷ decimal number ∷ [])) }
 {
     write_line(
         &[
@@ -47,10 +39,10 @@ fn write_image_number(word: Word, number: u64, out: &mut Bytes) -> Result<(), Ou
     )
 }
 
-/// Appends the line for a refused image.
+/// Puts the line for a refused image.
 #[tactic(auto, unfolding(crate::specs::FaultLines::image_line))]
-pub fn write_image_line(fault: ImageFault, out: &mut Bytes) -> Result<(), OutOfMemory>
-    ensures { OnOk result (out.new ≡ out.old ++ image_line fault) }
+pub fn write_image_line<P: Put>(fault: ImageFault, out: &mut P)
+    ensures { P.Puts out.old out.new (image_line fault) }
 {
     match fault {
         ImageFault::ImageSize { have, want } => {
@@ -66,10 +58,10 @@ pub fn write_image_line(fault: ImageFault, out: &mut Bytes) -> Result<(), OutOfM
     }
 }
 
-/// Appends the line for refused words.
+/// Puts the line for refused words.
 #[tactic(auto, unfolding(crate::specs::FaultLines::usage_line))]
-pub fn write_usage_line(fault: UsageFault, out: &mut Bytes) -> Result<(), OutOfMemory>
-    ensures { OnOk result (out.new ≡ out.old ++ usage_line fault) }
+pub fn write_usage_line<P: Put>(fault: UsageFault, out: &mut P)
+    ensures { P.Puts out.old out.new (usage_line fault) }
 {
     let usage = Part::Word(Word::Usage);
     match fault {
@@ -106,10 +98,10 @@ fn reason_word(reason: LineReason) -> Word
     }
 }
 
-/// Appends the line for a refused script.
+/// Puts the line for a refused script.
 #[tactic(auto, unfolding(crate::specs::FaultLines::script_line))]
-pub fn write_script_line(fault: ScriptFault, out: &mut Bytes) -> Result<(), OutOfMemory>
-    ensures { OnOk result (out.new ≡ out.old ++ script_line fault) }
+pub fn write_script_line<P: Put>(fault: ScriptFault, out: &mut P)
+    ensures { P.Puts out.old out.new (script_line fault) }
 {
     let script = Part::Word(Word::Script);
     match fault {

@@ -1,7 +1,7 @@
-ghost use Rattle.std.specs.Prelude.{◌≡◌, ◌<◌, ◌≤◌, ◌++◌, length, vec_len, IfOk, OnOk, OnErr, IsErrOf};
+ghost use Rattle.std.specs.Prelude.{◌≡◌, ◌<◌, ◌≤◌, ◌++◌, length, vec_len, IfOk};
 ghost use Rattle.std.specs.Io.KnownBytes.{Consumes, IsAtEnd};
-ghost use Rattle.outside.specs.Faults.{HasRisen};
-ghost use Rattle.varsvc.specs.Input.{IsInput};
+ghost use Rattle.outside.specs.Faults.{HasCauseAt};
+ghost use Rattle.varsvc.specs.Input.{IsInput, TakesAtMost, most_read};
 ghost use Rattle.varsvc.specs.declared.input.InputFault.TheVariants.{OutOfMemory as NoMemory};
 
 use outside::Source;
@@ -46,8 +46,8 @@ fn read_piece<S: Source>(
     ensures bound { IfOk result (λ n. n ≤ length piece.old) }
     ensures bytes { IfOk result (λ n. (bytes : _) × (length bytes ≡ n) × Consumes (S.left source.old) (S.left source.new) bytes × (input.new ≡ input.old ++ bytes)) }
     ensures end { IfOk result (λ n. n ≡ 0 → 0 < length piece.old → IsAtEnd (S.left source.new)) }
-    ensures failed { IsErrOf result InputFault.Failed → HasRisen (S.faults source.old) (S.faults source.new) }
-    ensures never_falls { S.faults source.old ≤ S.faults source.new }
+    ensures taken { TakesAtMost (length piece.old) (S.left source.old) (S.left source.new) }
+    ensures cause { HasCauseAt InputFault.Failed (S.fault_count source.old) (S.fault_count source.new) result }
 {
     let Ok(count) = source.read(piece) else {
         return Err(InputFault::Failed);
@@ -64,8 +64,9 @@ fn read_pieces<S: Source>(
 ) -> Result<Bytes, InputFault>
     requires { 0 < length piece.old }
     ensures bytes { IfOk result (IsInput (S.left source.old)) }
-    ensures failed { IsErrOf result InputFault.Failed → HasRisen (S.faults source.old) (S.faults source.new) }
-    ensures never_falls { S.faults source.old ≤ S.faults source.new }
+    ensures end { IfOk result (λ input. length input < most_read → IsAtEnd (S.left source.new)) }
+    ensures taken { TakesAtMost most_read (S.left source.old) (S.left source.new) }
+    ensures cause { HasCauseAt InputFault.Failed (S.fault_count source.old) (S.fault_count source.new) result }
 {
     let mut input = Bytes::new(alloc);
     'pieces: while input.as_slice().len() < MOST_READ {
@@ -87,8 +88,9 @@ pub fn zeros(alloc: Global, len: usize) -> Result<Vec<u8>, AllocError>
 /// Reads a source to its end, or to one byte more than a script may have.
 pub fn read_input<S: Source>(alloc: Global, source: &mut S) -> Result<Bytes, InputFault>
     ensures bytes { IfOk result (IsInput (S.left source.old)) }
-    ensures failed { IsErrOf result InputFault.Failed → HasRisen (S.faults source.old) (S.faults source.new) }
-    ensures never_falls { S.faults source.old ≤ S.faults source.new }
+    ensures end { IfOk result (λ input. length input < most_read → IsAtEnd (S.left source.new)) }
+    ensures taken { TakesAtMost most_read (S.left source.old) (S.left source.new) }
+    ensures cause { HasCauseAt InputFault.Failed (S.fault_count source.old) (S.fault_count source.new) result }
 {
     let mut piece = zeros(alloc, PIECE)?;
     read_pieces(alloc, source, &mut piece)

@@ -1,125 +1,75 @@
-ghost use Rattle.std.specs.Prelude.{◌≡◌, ◌≤◌, [], ◌∷◌, length, IfSome};
-ghost use Rattle.script_text.specs.Script.{script_of};
-ghost use Rattle.varsvc.specs.FaultLines.{input_line, usage_line, script_line};
-ghost use Rattle.varsvc.specs.Outcome.{IsRun};
-ghost use Rattle.varsvc.specs.Plan.{status_of, text_of, PlansLine, PlansReport, PlansCalls, PlansRun, PlansUsage, PlansScript};
+ghost use Rattle.std.specs.Prelude.{◌≡◌};
+ghost use Rattle.varsvc.specs.Outcome.{IsText, usage_row};
+ghost use Rattle.varsvc.specs.Plan.{PlansText, status_of, text_of};
 
-use crate::fault_lines::{write_input_line, write_script_line, write_usage_line};
-use crate::input::{InputFault, read_input};
-use crate::report::write_session;
-use crate::session::{any_lacks_memory, run_calls};
+use crate::fault_lines::write_usage_line;
 use crate::usage::UsageFault;
-use outside::Source;
-use script_text::{Script, ScriptFault, read_script};
 use std::alloc::Global;
-use var_types::{Answered, Bytes, Call};
+use var_types::{Bytes, TextBuffer};
 
 /// What a call of the program is to print, and the status that it ends with if that is printed.
 #[derive(Debug, Drop)]
 pub enum Plan {
     Print { status: u8, text: Bytes },
-    /// Memory was wanting, and the line that says so is to be printed.
+    /// A read of the source failed.
+    InputFault,
+    /// A call of the flash failed.
+    DeviceFault,
+    /// The call is out of memory.
     NoMemory,
 }
 
-fn plan_usage(alloc: Global, fault: UsageFault) -> Plan
-    ensures { PlansLine 2 (usage_line fault) result }
+// These lines are constants, so that they are printed also where there is no memory.
+const INPUT_LINE: &[u8] = b"input fault\n";
+
+const DEVICE_LINE: &[u8] = b"device fault\n";
+
+const MEMORY_LINE: &[u8] = b"no memory\n";
+
+/// The plan to print what stands in a text with a status.
+pub fn plan_text(status: u8, text: TextBuffer) -> Plan
+    ensures { PlansText status text result }
 {
-    let mut text = Bytes::new(alloc);
-    match write_usage_line(fault, &mut text) {
-        Ok(()) => Plan::Print { status: 2, text },
+    match text.finish() {
+        Ok(text) => Plan::Print { status, text },
         Err(_) => Plan::NoMemory,
     }
 }
 
-fn plan_input(alloc: Global) -> Plan
-    ensures { PlansLine 6 input_line result }
+/// The status of a plan.
+pub fn status_of(plan: &Plan) -> u8
+    ensures { result ≡ status_of plan.now }
 {
-    let mut text = Bytes::new(alloc);
-    match write_input_line(&mut text) {
-        Ok(()) => Plan::Print { status: 6, text },
-        Err(_) => Plan::NoMemory,
+    match plan {
+        Plan::Print { status, .. } => *status,
+        Plan::InputFault => 6,
+        Plan::DeviceFault => 7,
+        Plan::NoMemory => 8,
     }
 }
 
-fn plan_refused(alloc: Global, fault: ScriptFault) -> Plan
-    ensures { PlansLine 3 (script_line fault) result }
+/// The text that a plan prints, which is lent.
+#[tactic(auto, unfolding(crate::specs::FaultLines::input_line, crate::specs::FaultLines::device_line, crate::specs::FaultLines::memory_line, report_text::specs::Word::word_text))]
+pub fn text_of(plan: &Plan) -> &[u8]
+    ensures { result.now ≡ text_of plan.now }
 {
-    let mut text = Bytes::new(alloc);
-    match write_script_line(fault, &mut text) {
-        Ok(()) => Plan::Print { status: 3, text },
-        Err(_) => Plan::NoMemory,
-    }
-}
-
-fn plan_report(alloc: Global, answered: &[Answered]) -> Plan
-    ensures { PlansReport answered.now result }
-{
-    let mut text = Bytes::new(alloc);
-    let status = if any_lacks_memory(answered) { 8 } else { 0 };
-    match write_session(answered, &mut text) {
-        Ok(()) => Plan::Print { status, text },
-        Err(_) => Plan::NoMemory,
-    }
-}
-
-// At least one change is allowed, so that the limit is none for an empty script.
-fn plan_calls(alloc: Global, calls: Vec<Call>) -> Option<Plan>
-    ensures { IfSome result (PlansCalls calls.items) }
-{
-    let limit = calls.len().max(1) as u64;
-    let answered = run_calls(alloc, calls, limit).ok()?;
-    Some(plan_report(alloc, &answered))
-}
-
-fn first_calls(alloc: Global, script: Script) -> Vec<Call>
-    ensures { (calls : _) → script ≡ calls ∷ [] → result.items ≡ calls }
-{
-    let mut processors = script.into_processors();
-    match processors.pop() {
-        Some(calls) => calls,
-        None => Vec::new(alloc),
-    }
-}
-
-fn plan_accepted(alloc: Global, script: Script) -> Plan
-    ensures { (calls : _) → script ≡ calls ∷ [] → PlansRun calls result }
-{
-    let calls = first_calls(alloc, script);
-    match plan_calls(alloc, calls) {
-        Some(plan) => plan,
-        None => Plan::NoMemory,
-    }
-}
-
-fn plan_script(alloc: Global, input: &[u8]) -> Plan
-    ensures { PlansScript input.now result }
-{
-    match read_script(alloc, input) {
-        Ok(script) => plan_accepted(alloc, script),
-        Err(ScriptFault::OutOfMemory) => Plan::NoMemory,
-        Err(fault) => plan_refused(alloc, fault),
-    }
-}
-
-/// Reads a script to its end, runs it on one processor, and plans what is to be printed.
-pub fn plan_run<S: Source>(alloc: Global, source: &mut S) -> Plan
-    ensures run { IsRun (S.left source.old) (S.faults source.old) (S.faults source.new) (status_of result) (text_of result) }
-    ensures never_falls { S.faults source.old ≤ S.faults source.new }
-{
-    match read_input(alloc, source) {
-        Ok(input) => plan_script(alloc, input.as_slice()),
-        Err(InputFault::Failed) => plan_input(alloc),
-        Err(InputFault::OutOfMemory) => Plan::NoMemory,
+    match plan {
+        Plan::Print { text, .. } => text.as_slice(),
+        Plan::InputFault => INPUT_LINE,
+        Plan::DeviceFault => DEVICE_LINE,
+        Plan::NoMemory => MEMORY_LINE,
     }
 }
 
 /// Plans the line for refused words.
-pub fn plan_words(alloc: Global, fault: UsageFault) -> Plan
-    ensures { PlansUsage fault result }
+pub fn plan_usage(alloc: Global, fault: UsageFault) -> Plan
+    ensures text { IsText (usage_row fault) (status_of result) (text_of result) }
+    ensures memory { fault ≡ UsageFault.OutOfMemory → result ≡ Plan.NoMemory }
 {
-    match fault {
-        UsageFault::OutOfMemory => Plan::NoMemory,
-        fault => plan_usage(alloc, fault),
+    if fault == UsageFault::OutOfMemory {
+        return Plan::NoMemory;
     }
+    let mut text = TextBuffer::new(alloc);
+    write_usage_line(fault, &mut text);
+    plan_text(2, text)
 }

@@ -1,12 +1,18 @@
-ghost use Rattle.std.specs.Prelude.{◌≡◌, ◌++◌, OnOk};
+ghost use Rattle.std.specs.Prelude.{[], ◌∷◌};
+ghost use Rattle.var_types.specs.Guid.{IsGuid, guid_text};
+ghost use Rattle.var_types.specs.Texts.{name_text, spaced};
+ghost use Rattle.var_types.specs.Values.{AreUnits};
 ghost use Rattle.varsvc.specs.Replies.{get_reply_text, next_reply_text, name_fault_text, reason_text, set_reply_text, reply_text};
+ghost use Rattle.varsvc.specs.Values.{HasValues, HasValuesOfFault, HasValuesOfGet, HasValuesOfNext, HasValuesOfReason, HasValuesOfSet};
 
 use report_text::{Part, Word, write_parts};
-use var_types::{Bytes, GetReply, NameFault, NextReply, OutOfMemory, Reply, SetReason, SetReply};
+use var_types::text::write_name;
+use var_types::{GetReply, Key, NameFault, NextReply, Put, Reply, SetReason, SetReply};
 
 #[tactic(auto, unfolding(crate::specs::Replies::get_reply_text))]
-fn write_get_reply(reply: &GetReply, out: &mut Bytes) -> Result<(), OutOfMemory>
-    ensures { OnOk result (out.new ≡ out.old ++ get_reply_text reply.now) }
+fn write_get_reply<P: Put>(reply: &GetReply, out: &mut P)
+    ensures text { P.Puts out.old out.new (get_reply_text reply.now) }
+    ensures values { HasValuesOfGet reply.now }
 {
     match reply {
         GetReply::NotFound => write_parts(&[Part::Word(Word::NotFound)], out),
@@ -24,9 +30,19 @@ fn write_get_reply(reply: &GetReply, out: &mut Bytes) -> Result<(), OutOfMemory>
     }
 }
 
+fn write_key<P: Put>(key: &Key, out: &mut P)
+    ensures text { P.Puts out.old out.new (spaced (guid_text key.now.guid ∷ name_text key.now.name ∷ [])) }
+    ensures values { IsGuid key.now.guid × AreUnits key.now.name }
+{
+    key.guid.write(out);
+    out.put(b" ");
+    write_name(key.name.as_slice(), out);
+}
+
 #[tactic(auto, unfolding(crate::specs::Replies::next_reply_text))]
-fn write_next_reply(reply: &NextReply, out: &mut Bytes) -> Result<(), OutOfMemory>
-    ensures { OnOk result (out.new ≡ out.old ++ next_reply_text reply.now) }
+fn write_next_reply<P: Put>(reply: &NextReply, out: &mut P)
+    ensures text { P.Puts out.old out.new (next_reply_text reply.now) }
+    ensures values { HasValuesOfNext reply.now }
 {
     match reply {
         NextReply::NoSuch => {
@@ -41,17 +57,18 @@ fn write_next_reply(reply: &NextReply, out: &mut Bytes) -> Result<(), OutOfMemor
             write_parts(&[Part::Word(Word::BufferTooSmall), needed], out)
         }
         NextReply::Ok { key } => {
-            let guid = Part::Guid(&key.guid);
-            let name = Part::Name(key.name.as_slice());
-            write_parts(&[Part::Word(Word::Success), guid, name], out)
+            write_parts(&[Part::Word(Word::Success)], out);
+            out.put(b" ");
+            write_key(key, out)
         }
         NextReply::OutOfMemory => write_parts(&[Part::Word(Word::NoMemory)], out),
     }
 }
 
 #[tactic(auto, unfolding(crate::specs::Replies::name_fault_text))]
-fn write_name_fault(fault: NameFault, out: &mut Bytes) -> Result<(), OutOfMemory>
-    ensures { OnOk result (out.new ≡ out.old ++ name_fault_text fault) }
+fn write_name_fault<P: Put>(fault: NameFault, out: &mut P)
+    ensures text { P.Puts out.old out.new (name_fault_text fault) }
+    ensures values { HasValuesOfFault fault }
 {
     let invalid = Part::Word(Word::InvalidParameter);
     let name = Part::Word(Word::Name);
@@ -71,8 +88,9 @@ fn write_name_fault(fault: NameFault, out: &mut Bytes) -> Result<(), OutOfMemory
 }
 
 #[tactic(auto, unfolding(crate::specs::Replies::reason_text))]
-fn write_reason(reason: SetReason, out: &mut Bytes) -> Result<(), OutOfMemory>
-    ensures { OnOk result (out.new ≡ out.old ++ reason_text reason) }
+fn write_reason<P: Put>(reason: SetReason, out: &mut P)
+    ensures text { P.Puts out.old out.new (reason_text reason) }
+    ensures values { HasValuesOfReason reason }
 {
     let invalid = Part::Word(Word::InvalidParameter);
     let lacking = Part::Word(Word::OutOfResources);
@@ -111,8 +129,9 @@ fn write_reason(reason: SetReason, out: &mut Bytes) -> Result<(), OutOfMemory>
 }
 
 #[tactic(auto, unfolding(crate::specs::Replies::set_reply_text))]
-fn write_set_reply(reply: &SetReply, out: &mut Bytes) -> Result<(), OutOfMemory>
-    ensures { OnOk result (out.new ≡ out.old ++ set_reply_text reply.now) }
+fn write_set_reply<P: Put>(reply: &SetReply, out: &mut P)
+    ensures text { P.Puts out.old out.new (set_reply_text reply.now) }
+    ensures values { HasValuesOfSet reply.now }
 {
     match reply {
         SetReply::Ok => write_parts(&[Part::Word(Word::Success)], out),
@@ -122,10 +141,11 @@ fn write_set_reply(reply: &SetReply, out: &mut Bytes) -> Result<(), OutOfMemory>
     }
 }
 
-/// Appends the text of a reply.
+/// Puts the text of a reply.
 #[tactic(auto, unfolding(crate::specs::Replies::reply_text))]
-pub fn write_reply(reply: &Reply, out: &mut Bytes) -> Result<(), OutOfMemory>
-    ensures { OnOk result (out.new ≡ out.old ++ reply_text reply.now) }
+pub fn write_reply<P: Put>(reply: &Reply, out: &mut P)
+    ensures text { P.Puts out.old out.new (reply_text reply.now) }
+    ensures values { HasValues reply.now }
 {
     match reply {
         Reply::Get(reply) => write_get_reply(reply, out),

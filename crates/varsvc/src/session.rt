@@ -1,39 +1,18 @@
 ghost use Rattle.std.specs.Prelude.{◌≡◌, ◌++◌, [], max, length, IfOk};
 ghost use Rattle.std.specs.List.{list_any};
 ghost use Rattle.var_types.specs.State.{start};
-ghost use Rattle.var_types.specs.Step.{lacks_memory, is_change};
+ghost use Rattle.var_types.specs.Step.{lacks_memory};
 ghost use Rattle.var_types.specs.Session.{AreStepped, calls_of};
 
 use std::alloc::{AllocError, Global};
 use svc_plain::Plain;
-use var_types::{Answered, Call, GetReply, NextReply, Reply, Route, SetReply};
+use var_types::{Answered, Call, Route};
 
-fn lacks_memory(reply: &Reply) -> bool
-    ensures { result ≡ lacks_memory reply.now }
-{
-    match reply {
-        Reply::Get(GetReply::OutOfMemory) => true,
-        Reply::Next(NextReply::OutOfMemory) => true,
-        Reply::Set(SetReply::OutOfMemory) => true,
-        _ => false,
-    }
-}
-
-/// Whether a reply says that its call changed the state.
-pub fn is_change(reply: &Reply) -> bool
-    ensures { result ≡ is_change reply.now }
-{
-    match reply {
-        Reply::Set(SetReply::Ok) => true,
-        _ => false,
-    }
-}
-
-/// Whether memory was wanting for a reply.
+/// Whether some call was out of memory.
 pub fn any_lacks_memory(answered: &[Answered]) -> bool
-    ensures { result ≡ list_any (λ a. lacks_memory a.reply) answered.now }
+    ensures { result ≡ list_any (λ a. lacks_memory a.call a.reply) answered.now }
 {
-    answered.iter().any(|a| lacks_memory(&a.reply))
+    answered.iter().any(|a| a.lacks_memory())
 }
 
 /// Steps the one-thread service, which starts with no variable and makes at most `limit` changes, through calls in order.

@@ -6,6 +6,9 @@ use std::test::Fail;
 
 const ROOM: usize = 4096;
 
+/// Room for a report of data of 60,000 bytes.
+const LONG_ROOM: usize = 131_072;
+
 /// A call of the program with a source and a sink in memory, whose calls of these numbers fail.
 #[derive(Drop)]
 struct Case<'a> {
@@ -119,6 +122,68 @@ fn scripts_are_run(rt: HostRuntime) -> Result<(), Fail> {
         let done = run(rt.alloc(), &call, ROOM)?;
         assert_eq!(rt; done.0, status);
         assert_eq!(rt; done.1.as_slice(), text);
+    }
+    Ok(())
+}
+
+// A script of texts, each so many times.
+fn script_of(alloc: Global, parts: &[(&str, usize)]) -> Result<Vec<u8>, AllocError> {
+    let mut script = Vec::new(alloc);
+    for (text, count) in parts {
+        for _ in 0..*count {
+            script.extend_from_slice(text.as_bytes())?;
+        }
+    }
+    Ok(script)
+}
+
+#[test]
+fn limits_are_printed_with_their_numbers(rt: HostRuntime) -> Result<(), Fail> {
+    let set = "0 set 8be4df61-93ca-11d2-aa0d-00e098032b8c ";
+    let get = "0 get 8be4df61-93ca-11d2-aa0d-00e098032b8c A 9\n";
+    let end = "\n";
+    let cases: [(&[(&str, usize)], u8, &str); 5] = [
+        (
+            &[(set, 1), ("A 6 ", 1), ("01", 33_729), (end, 1)],
+            0,
+            "\n0 0 - INVALID_PARAMETER size 33793 33792\nend\n",
+        ),
+        (
+            &[(set, 1), ("A", 513), (" 6 01", 1), (end, 1)],
+            0,
+            "\n0 0 - INVALID_PARAMETER name long 513\nend\n",
+        ),
+        (
+            &[
+                (set, 1),
+                ("A 6 ", 1),
+                ("01", 30_000),
+                (end, 1),
+                (set, 1),
+                ("B 6 ", 1),
+                ("01", 30_000),
+                (end, 1),
+                (set, 1),
+                ("C 6 ", 1),
+                ("01", 5_400),
+            ],
+            0,
+            "\n2 2 - OUT_OF_RESOURCES room 65592 65508\nend\n",
+        ),
+        (&[("#", 1_048_577)], 3, "script bytes 1048576\n"),
+        (&[(get, 20_001)], 3, "script calls 0 20000\n"),
+    ];
+    for (parts, status, last) in cases {
+        let script = script_of(rt.alloc(), parts)?;
+        let call = Case {
+            words: &["run", "vars.fd"],
+            script: &script,
+            source_fails: &[],
+            sink_fails: &[],
+        };
+        let done = run(rt.alloc(), &call, LONG_ROOM)?;
+        assert_eq!(rt; done.0, status, "{last}");
+        assert!(rt; done.1.ends_with(last.as_bytes()), "{last}");
     }
     Ok(())
 }

@@ -14,7 +14,7 @@ fn is_dashed(word: &String) -> bool
 }
 
 fn first_dashed(words: &[String]) -> Option<usize>
-    ensures place { result ≡ position (λ word. is_dashed (string_bytes word)) words.now }
+    ensures position { result ≡ position (λ word. is_dashed (string_bytes word)) words.now }
     ensures within { IfSome result (λ at. at < length words.now) }
 {
     words.iter().position(|word| is_dashed(word))

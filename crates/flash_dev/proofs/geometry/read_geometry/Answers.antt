@@ -12,7 +12,7 @@ returns-clause-geometry g c = λ other.
     let law = g.met.F.Flash.sized c.args.flash.now in
     let same = sym c.len-have.ensures ∙ c.if-have-ne-IMAGE_BYTES.false in
     rw c.geometry_of.ensures.geometry
-    (right_size (g.F.Flash.holds c.args.flash.now) (g.F.Flash.size c.args.flash.now) c.read.new.into law same c.in_ok-read.ensures.bytes)
+    (right_size (g.F.Flash.holds c.args.flash.now) (g.F.Flash.size c.args.flash.now) c.in_ok-first.first law same c.in_ok-first.ensures.headers)
 
 pub returns-clause-size_only : goal.returns-clause-size_only
-returns-clause-size_only g c = λ have want e size. headers_refuse c.read.new.into have want (sym c.geometry_of.ensures.geometry ∙ e)
+returns-clause-size_only g c = λ have want e size. headers_refuse c.in_ok-first.first have want (sym c.geometry_of.ensures.geometry ∙ e)

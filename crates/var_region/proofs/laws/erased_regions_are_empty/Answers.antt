@@ -1,5 +1,5 @@
-use Rattle.var_region.proofs.Erased.{IsEmptyArea-erased}
+use Rattle.var_region.proofs.Erased.{IsEmptyRegion-erased}
 use Rattle.var_region.proofs.laws.erased_regions_are_empty.Goals as goal
 
 pub returns : goal.returns
-returns c = IsEmptyArea-erased
+returns c = IsEmptyRegion-erased

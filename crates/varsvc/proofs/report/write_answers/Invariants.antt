@@ -1,6 +1,10 @@
-use Rattle.std.proofs.Common.{◌≡◌, ◌++◌, take}
+use Rattle.std.proofs.Common.{All, take}
 use Rattle.varsvc.specs.Report.{indexed, answer_line}
+use Rattle.varsvc.specs.Values.{AnswerHasValues}
 use Rattle.varsvc.proofs.report.write_answers.Given as goal
 
 abbrev pub invariant-loop-index : goal.invariant-loop-index
-invariant-loop-index l = l.out ≡ l.initial.out ++ indexed answer_line 0 (take l.index l.answered)
+invariant-loop-index g l = record {
+  text : g.P.Put.Puts l.initial.out l.out (indexed answer_line 0 (take l.index l.answered));
+  values : All AnswerHasValues (take l.index l.answered);
+}

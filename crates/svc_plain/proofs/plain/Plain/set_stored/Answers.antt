@@ -4,8 +4,8 @@ use Rattle.std.specs.Map.{remove_entry}
 use Rattle.std.specs.Option.{option_copied}
 use Rattle.std.specs.Prelude.{Option, IfSome}
 use Rattle.svc_plain.proofs.Decisions.{set_stored-from_decision}
-use Rattle.svc_plain.proofs.Rooms.{all_within, counted_rest}
-use Rattle.svc_plain.specs.Used.{used_of}
+use Rattle.svc_plain.proofs.Rooms.{all_within, IsTotalOf-rest}
+use Rattle.svc_plain.specs.RoomTotals.{total_of}
 use Rattle.svc_plain.specs.declared.decision.Decision.TheVariants.{Refuse, Remove, Same, Write}
 use Rattle.var_types.specs.Attributes.{store_of}
 use Rattle.var_types.specs.Key.{key_cmp}
@@ -19,18 +19,18 @@ use Rattle.svc_plain.proofs.plain.Plain.set_stored.Goals as goal
 
 pub rest_of-rest-requires : goal.rest_of-rest-requires
 rest_of-rest-requires c =
-    let used = c.self.inside.used in
-    let P : Option Variable → Type 0 = λ o. IfSome o (λ v. room_of c.args.key v ≤ used_of used (store_of v.attributes)) in
-    subst P (sym c.get-found.ensures.value) (all_within used c.self.inside.variables.entries c.self.invariant c.args.key)
+    let totals = c.self.inside.totals in
+    let P : Option Variable → Type 0 = λ o. IfSome o (λ v. room_of c.args.key v ≤ total_of totals (store_of v.attributes)) in
+    subst P (sym c.get-found.ensures.value) (all_within totals c.self.inside.variables.entries c.self.invariant c.args.key)
 
 pub set_removed-requires : goal.set_removed-requires
 set_removed-requires c =
-    counted_rest c.self.inside.used c.rest_of-rest.result c.args.key (option_copied c.get-found.result) c.self.inside.variables.entries
+    IsTotalOf-rest c.self.inside.totals c.rest_of-rest.result c.args.key (option_copied c.get-found.result) c.self.inside.variables.entries
     c.args.self.now.variables c.self.invariant c.rest_of-rest.ensures c.get-found.ensures.value (ap (λ s. s.variables) c.self.view_is)
 
 pub set_put-requires-clause-rest : goal.set_put-requires-clause-rest
 set_put-requires-clause-rest c =
-    counted_rest c.self.inside.used c.rest_of-rest.result c.args.key (option_copied c.get-found.result) c.self.inside.variables.entries
+    IsTotalOf-rest c.self.inside.totals c.rest_of-rest.result c.args.key (option_copied c.get-found.result) c.self.inside.variables.entries
     c.args.self.now.variables c.self.invariant c.rest_of-rest.ensures c.get-found.ensures.value (ap (λ s. s.variables) c.self.view_is)
 
 pub returns-in-Refuse-clause-done : goal.returns-in-Refuse-clause-done

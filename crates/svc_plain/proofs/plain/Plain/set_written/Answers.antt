@@ -2,7 +2,7 @@ use Rattle.std.proofs.Common.{List, subst, sym, ap, ◌∙◌}
 use Rattle.std.specs.BTreeMap.{insert_entry}
 use Rattle.std.specs.List.Sorted.{IsStrictlySortedBy}
 use Rattle.std.specs.Map.{keys_of}
-use Rattle.svc_plain.specs.Used.{IsCounted}
+use Rattle.svc_plain.specs.RoomTotals.{IsTotalOf}
 use Rattle.var_types.specs.Key.{key_cmp}
 use Rattle.var_types.specs.declared.key.Key.{Key}
 use Rattle.var_types.specs.declared.variable.Variable.{Variable}
@@ -15,4 +15,4 @@ invariant_of-self-in-Ok-insert c =
     let put =
     c.in-Ok-insert.ensures.entries ∙ ap (λ (es : List (Key × Variable)). insert_entry key_cmp es c.args.key c.in-Ok.variable) variables
     ∙ ap (λ (v : Variable). insert_entry key_cmp c.args.self.now.variables c.args.key v) c.in-Ok.ensures in
-    subst (λ (es : List (Key × Variable)). IsCounted c.args.used es) (sym put) (c.requires sorted)
+    subst (λ (es : List (Key × Variable)). IsTotalOf c.args.totals es) (sym put) (c.requires sorted)

@@ -1,0 +1,14 @@
+ghost use Rattle.std.specs.Prelude.{ℕ, List, [], ◌++◌};
+
+/// What texts are put to, one behind the other. It remembers a failure, and from then on nothing is put.
+pub trait Put {
+    /// From the one state to the other this text was put, or a front of it where that failed.
+    ghost Puts: { Self → Self → List ℕ → Type 0 };
+
+    fn put(&mut self, bytes: &[u8])
+        ensures { Puts self.old self.new bytes.now };
+
+    ghost none: { (a : Self) → Puts a a [] };
+
+    ghost joined: { (a b c : Self) (t u : List ℕ) → Puts a b t → Puts b c u → Puts a c (t ++ u) };
+}

@@ -163,7 +163,7 @@ fn read_headers<F: Flash>(flash: &mut F) -> Result<[u8; HEADERS_BYTES], Device>
     Ok(first)
 }
 
-/// The geometry of the image that a flash holds, read from its front; nothing is written.
+/// The geometry of the image that a flash holds, read from its front; its bytes stay.
 pub fn read_geometry<F: Flash>(flash: &mut F) -> Result<Geometry, ImageFault>
     ensures geometry { result ≢ Err ImageFault.Device → IfSome (F.holds flash.old) (λ image. result ≡ image_geometry image) }
 

@@ -81,7 +81,7 @@ fn plan_volume<F: Flash>(alloc: Global, flash: &mut F) -> Plan
     }
 }
 
-/// Lists the variables that an image keeps; nothing is written.
+/// Lists the variables that an image keeps; its bytes stay.
 pub fn plan_list<F: Flash>(alloc: Global, flash: &mut F) -> Plan
     ensures text { IsText (list_row (F.holds flash.old) (F.size flash.old)) (status_of result) (text_of result) }
     ensures cause { FailsAt 7 (status_of result) (F.fault_count flash.old) (F.fault_count flash.new) }

@@ -8,7 +8,6 @@ pub mod Plans
 pub mod Runs
 pub mod Volumes
 pub mod Usages
-pub mod Left
 pub mod Judged
 pub mod Cut
 pub mod WordBytes

@@ -13,15 +13,14 @@ use Rattle.var_types.specs.Step.{IsOfKind}
 use Rattle.var_types.proofs.ReplyKinds.{IsOfKind-stepped}
 use Rattle.varsvc.specs.declared.plan.Plan.{Plan}
 use Rattle.varsvc.specs.declared.plan.Plan.TheVariants.{Print, InputFault, DeviceFault, NoMemory}
-use Rattle.varsvc.specs.FaultLines.{script_line}
 use Rattle.varsvc.specs.Fitting.{IsFitting}
 use Rattle.varsvc.specs.Input.{IsInput, most_read}
 use Rattle.varsvc.specs.Outcome.{IsText, run_row}
-use Rattle.varsvc.specs.Plan.{PlansLine, report_status, status_of, text_of}
+use Rattle.varsvc.specs.Plan.{report_status, status_of, text_of}
 use Rattle.varsvc.specs.RunPlan.{PlansCalls, PlansRun}
 use Rattle.varsvc.specs.Runs.{IsSessionOf, RefusesScript, Reports, lacks_any, report_of}
 use Rattle.varsvc.specs.Values.{AnswerHasValues}
-use Rattle.varsvc.proofs.PlannedTexts.{text_done, text_lacking, text_memory, text_script}
+use Rattle.varsvc.proofs.PlannedTexts.{text_done, text_lacking, text_memory}
 use Rattle.varsvc.proofs.Plans.{line_text, other_status}
 use Rattle.varsvc.proofs.Scripts.{script_of-long, script_of-take}
 
@@ -86,15 +85,6 @@ run_status calls NoMemory planned = λ e. omega (arith, e)
 run_status calls InputFault planned = calls_status calls InputFault planned
 run_status calls DeviceFault planned = calls_status calls DeviceFault planned
 run_status calls (Print s t) planned = calls_status calls (Print s t) planned
-
--- the plan for a script that is refused
-pub refused_script_text : (input : List ℕ) (fault : ScriptFault) (plan : Plan) → script_of input ≡ Err fault → PlansLine 3 (script_line fault) plan
-    → IsText (run_row (Some input)) (status_of plan) (text_of plan)
-refused_script_text input fault plan h plans =
-    line_text (run_row (Some input)) 3 (script_line fault) plan (text_script (run_row (Some input)) (script_line fault) (fault, h, refl)) plans
-
-pub refused_script_status : (fault : ScriptFault) (plan : Plan) → PlansLine 3 (script_line fault) plan → status_of plan ≢ 6
-refused_script_status fault plan plans = other_status 6 3 _ plan (λ e. omega (arith, e)) (λ e. omega (arith, e)) plans
 
 -- what is read says the same of the script as all that was left
 script_of-input : (left : Option (List ℕ)) (input : List ℕ) → IsInput left input → IfSome left (λ bytes. script_of input ≡ script_of bytes)

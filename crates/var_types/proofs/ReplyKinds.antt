@@ -4,9 +4,9 @@ use Rattle.std.proofs.lemmas.List.Elements.{All-cons, All-nil}
 use Rattle.std.specs.Prelude.{All}
 use Rattle.var_types.specs.declared.answered.Answered.{Answered}
 use Rattle.var_types.specs.declared.call.Call.{Call}
-use Rattle.var_types.specs.declared.call.Call.TheVariants.{Get, Next, Set}
+use Rattle.var_types.specs.declared.call.Call.TheVariants.{ExitBoot, Get, Next, Set}
 use Rattle.var_types.specs.declared.reply.Reply.{Reply}
-use Rattle.var_types.specs.declared.reply.Reply.TheVariants.{Get as GetReplied, Next as NextReplied, Set as SetReplied}
+use Rattle.var_types.specs.declared.reply.Reply.TheVariants.{Exit as ExitReplied, Get as GetReplied, Next as NextReplied, Set as SetReplied}
 use Rattle.var_types.specs.Session.{AreStepped, state_after}
 use Rattle.var_types.specs.State.{State}
 use Rattle.var_types.specs.Step.{IsOfKind, lacks_memory, step}
@@ -17,6 +17,7 @@ unfolding step
 IsOfKind-step state (Get call) = tt
 IsOfKind-step state (Next call) = tt
 IsOfKind-step state (Set call) = tt
+IsOfKind-step state ExitBoot = tt
 
 -- a reply that says that its call was out of memory
 IsOfKind-memory : (call : Call) (reply : Reply) → lacks_memory call reply ≡ true → IsOfKind call reply
@@ -29,6 +30,13 @@ IsOfKind-memory (Next call) (GetReplied reply) h = cc
 IsOfKind-memory (Next call) (SetReplied reply) h = cc
 IsOfKind-memory (Set call) (GetReplied reply) h = cc
 IsOfKind-memory (Set call) (NextReplied reply) h = cc
+IsOfKind-memory (Get call) (ExitReplied reply) h = cc
+IsOfKind-memory (Next call) (ExitReplied reply) h = cc
+IsOfKind-memory (Set call) (ExitReplied reply) h = cc
+IsOfKind-memory ExitBoot (GetReplied reply) h = cc
+IsOfKind-memory ExitBoot (NextReplied reply) h = cc
+IsOfKind-memory ExitBoot (SetReplied reply) h = cc
+IsOfKind-memory ExitBoot (ExitReplied reply) h = tt
 
 -- a reply that is the service's, unless its call was out of memory
 pub IsOfKind-answer : (state : State) (call : Call) (reply : Reply) → (lacks_memory call reply ≡ false → reply ≡ (step state call).0)

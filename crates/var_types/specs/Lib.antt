@@ -10,7 +10,10 @@ pub mod State
 pub mod Room
 pub mod Get
 pub mod Next
+pub mod Reading
+pub mod SetCases
 pub mod Set
+pub mod Exit
 pub mod Step
 pub mod History
 pub mod Session

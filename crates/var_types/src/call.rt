@@ -35,4 +35,6 @@ pub enum Call {
     Get(GetCall),
     Next(NextCall),
     Set(SetCall),
+    /// The end of the boot phase, which hides what has no runtime access (UEFI 2.10, 7.4).
+    ExitBoot,
 }

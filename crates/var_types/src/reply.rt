@@ -36,12 +36,24 @@ pub enum SetReply {
     OutOfMemory,
 }
 
+/// What the end of the boot phase answers.
+#[derive(Clone, Copy, Debug, PartialEq, Eq)]
+pub enum ExitReply {
+    /// The phase is runtime from now on.
+    Ok,
+    /// It was already, so nothing was changed.
+    Same,
+    /// The history holds no more changes than those made.
+    HistoryFull { made: u64 },
+}
+
 /// What a call answers.
 #[derive(Debug, Drop)]
 pub enum Reply {
     Get(GetReply),
     Next(NextReply),
     Set(SetReply),
+    Exit(ExitReply),
 }
 
 impl Reply {
@@ -52,7 +64,7 @@ impl Reply {
         ensures { result ≡ is_change self.now }
     {
         match self {
-            Reply::Set(SetReply::Ok) => true,
+            Reply::Set(SetReply::Ok) | Reply::Exit(ExitReply::Ok) => true,
             _ => false,
         }
     }

@@ -2,7 +2,7 @@
 ghost use Rattle.std.specs.Prelude.{◌≡◌, ◌+◌, ◌-◌, ◌^◌, ◌<◌};
 ghost use Rattle.var_types.specs.Room.{align4, record_size, room_of};
 
-use crate::{Bytes, Key, Units, Variable};
+use crate::{Key, Units, Variable};
 use var_header::HEADER_BYTES;
 
 /// The most bytes of a record, its header and its name counted.
@@ -17,17 +17,17 @@ pub fn align4(n: u64) -> u64
 }
 
 /// The bytes of an authenticated record: its header, the name with its NUL, and the data.
-pub fn record_size(name: &Units, bytes: &Bytes) -> u64
+pub fn record_size(name: &Units, bytes: &[u8]) -> u64
     ensures size { result ≡ record_size name.now bytes.now }
     ensures small { result < 2 ^ 63 + 4096 }
 {
     let name_size = 2 * name.as_slice().len() as u64 + 2;
-    HEADER_BYTES as u64 + name_size + bytes.as_slice().len() as u64
+    HEADER_BYTES as u64 + name_size + bytes.len() as u64
 }
 
 /// The bytes of a variable's record with the gap behind it.
 pub fn room_of(key: &Key, variable: &Variable) -> u64
     ensures { result ≡ room_of key.now variable.now }
 {
-    align4(record_size(&key.name, &variable.bytes))
+    align4(record_size(&key.name, variable.bytes.as_slice()))
 }

@@ -2,9 +2,12 @@
 #![tactic(auto)]
 
 mod answered;
+mod ask;
 pub mod attributes;
+mod auth_fault;
 mod bytes;
 mod call;
+mod descriptor;
 mod guid;
 mod key;
 mod laws;
@@ -28,8 +31,11 @@ mod variable;
 mod verdict;
 
 pub use answered::{Answered, Route};
+pub use ask::{Ask, Denied, Rule};
+pub use auth_fault::AuthFault;
 pub use bytes::Bytes;
 pub use call::{Call, GetCall, NextCall, SetCall};
+pub use descriptor::{Descriptor, DescriptorFault};
 pub use guid::{Guid, NotAGuid};
 pub use key::Key;
 pub use laws::{

@@ -8,6 +8,9 @@ pub mod Key
 pub mod Attributes
 pub mod State
 pub mod Room
+pub mod Stamps
+pub mod Descriptor
+pub mod Policies
 pub mod Get
 pub mod Next
 pub mod Reading

@@ -2,10 +2,13 @@
 #![tactic(auto)]
 
 mod answered;
+mod ask;
 pub mod attributes;
+mod auth_fault;
 mod bytes;
 mod call;
 mod decision;
+mod descriptor;
 mod guid;
 mod key;
 mod laws;
@@ -29,9 +32,12 @@ mod variable;
 mod verdict;
 
 pub use answered::{Answered, Route};
+pub use ask::{Ask, Denied, Rule};
+pub use auth_fault::AuthFault;
 pub use bytes::Bytes;
 pub use call::{Call, GetCall, NextCall, SetCall};
 pub use decision::Decision;
+pub use descriptor::{Descriptor, DescriptorFault};
 pub use guid::{Guid, NotAGuid};
 pub use key::Key;
 pub use laws::{

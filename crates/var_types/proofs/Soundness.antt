@@ -23,6 +23,7 @@ use Rattle.var_types.specs.declared.call.SetCall.{SetCall}
 use Rattle.var_types.specs.declared.decision.Decision.{Decision}
 use Rattle.var_types.specs.declared.decision.Decision.TheVariants.{Refuse, Same, Remove, Write}
 use Rattle.var_types.specs.declared.name.NameFault.{NameFault}
+use Rattle.var_types.specs.declared.reply.ExitReply.{ExitReply}
 use Rattle.var_types.specs.declared.reply.ExitReply.TheVariants as exit
 
 -- a start with no variable is sound
@@ -62,9 +63,9 @@ module _ (state : State) (sound : IsSound state) where
   -- the end of the boot phase, by the phase and by whether the history is full
   IsSound-ended : (runtime full : Bool)
       → IsSound
-      (if runtime then (exit.Same, state)
-      else if full then (exit.HistoryFull state.made, state)
-      else (exit.Ok, record state { runtime = true; made = state.made + 1 })).1
+      (if◌then◌else◌ {A = ExitReply × State} runtime (exit.Same, state)
+      (if full then (exit.HistoryFull state.made, state)
+      else (exit.Ok, record state { runtime = true; made = state.made + 1 }))).1
   IsSound-ended true full = sound
   IsSound-ended false true = sound
   IsSound-ended false false = record { ordered = sound.ordered; named = sound.named }

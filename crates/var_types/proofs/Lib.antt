@@ -1,5 +1,6 @@
 pub mod PairedUnits
 pub mod Keys
+pub mod Descriptors
 pub mod Steps
 pub mod ReplyKinds
 pub mod Sessions

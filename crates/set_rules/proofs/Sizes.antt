@@ -1,6 +1,7 @@
 -- What the cases of size say where they don't hold.
 use Rattle.std.proofs.Common.{◌≡◌, ◌≤◌, Bool, true, false, List, [], ◌++◌, refl, ap, sym, ◌∙◌}
 use Rattle.std.proofs.lemmas.Bool.{ltb-false}
+use Rattle.std.specs.Option.{option_or}
 use Rattle.std.specs.Prelude.{ℕ, not, ◌&&◌, nat_lt, if◌then◌else◌, Option, Some, None}
 use Rattle.var_types.specs.declared.set_reason.SetReason.{SetReason}
 use Rattle.var_types.specs.declared.variable.Variable.{Variable}
@@ -40,3 +41,8 @@ unfolding made_of
 made_fits set fits h keeps =
     joined_fits set.call.name set.payload set.call.attributes set.stored fits
     (ap (λ d. append_size_case set.call.name set.call.attributes d set.stored set.payload) (sym keeps) ∙ h)
+
+-- where neither of two options holds, the second doesn't
+pub or_last : {A : Type 0} (a b : Option A) → option_or a b ≡ None → b ≡ None
+or_last None b h = h
+or_last (Some x) b h = cc

@@ -16,6 +16,7 @@ use var_types::attributes::{NON_VOLATILE, has, is_append, without_append};
 use var_types::{Decision, SetReason, Store, align4, record_size};
 
 /// Whether bytes that are stored are those that a set leaves: an append leaves more, where its payload isn't empty.
+#[tactic(auto, using(crate::proofs::Joined::same_longer))]
 fn same_bytes(append: bool, stored: &[u8], payload: &[u8]) -> bool
     ensures { result ≡ pointwise ◌==◌ stored.now ((if append then stored.now else []) ++ payload.now) }
 {
@@ -63,7 +64,7 @@ fn made_store(set: &Reading) -> Store
 }
 
 /// The bytes of the record of the variable that the set makes.
-#[tactic(auto, unfolding(var_types::specs::Reading::made_of), using(std::proofs::Common::length-append))]
+#[tactic(auto, unfolding(var_types::specs::Reading::made_of))]
 fn made_size(set: &Reading) -> u64
     requires { record_size set.now.call.now.name set.now.payload.now ≤ 33792 }
     ensures { result ≡ record_size set.now.call.now.name (made_of (reading set.now)).bytes }

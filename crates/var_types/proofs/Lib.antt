@@ -1,6 +1,7 @@
 pub mod PairedUnits
 pub mod Keys
 pub mod Descriptors
+pub mod SetSizes
 pub mod Steps
 pub mod ReplyKinds
 pub mod Sessions

@@ -16,6 +16,7 @@ pub mod Next
 pub mod Reading
 pub mod SetCases
 pub mod Set
+pub mod SetLaws
 pub mod Exit
 pub mod Step
 pub mod History

@@ -1,5 +1,5 @@
 -- The cases of the set rule, each over what it may read.
-use Rattle.std.specs.Prelude.{ℕ, ◌==◌, ◌&&◌, ◌||◌, not, Bool, true, false, List, [], ◌∷◌, ◌++◌, length, bit_and, nat_le, nat_lt, if◌then◌else◌, Option, Some, None, is_some, Result, Ok, Err}
+use Rattle.std.specs.Prelude.{ℕ, ◌==◌, ◌&&◌, ◌||◌, not, Bool, true, false, List, ◌++◌, length, bit_and, nat_le, nat_lt, if◌then◌else◌, Option, Some, None, is_some, Result, Ok, Err}
 use lib.Pointwise.{pointwise}
 use Rattle.var_types.specs.declared.ask.Denied.{Denied}
 use Rattle.var_types.specs.declared.decision.Decision.{Decision}

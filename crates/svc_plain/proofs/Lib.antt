@@ -1,4 +1,4 @@
-pub mod Sums
-pub mod Rooms
-pub mod Decisions
-pub mod Nexts
+mod Sums
+mod Rooms
+mod Nexts
+mod Seen

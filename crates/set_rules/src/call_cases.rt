@@ -12,8 +12,9 @@ use var_types::attributes::{
 use var_types::{Decision, NameFault, SetCall, SetReason, check_name};
 
 /// The bits of writes that this service doesn't do.
-const UNSUPPORTED: u32 =
-    HARDWARE_ERROR_RECORD | AUTHENTICATED_WRITE_ACCESS | ENHANCED_AUTHENTICATED_ACCESS;
+const UNSUPPORTED: u32 = HARDWARE_ERROR_RECORD
+    | AUTHENTICATED_WRITE_ACCESS
+    | ENHANCED_AUTHENTICATED_ACCESS;
 
 /// The bits that no attribute has.
 const UNKNOWN: u32 = 0xFFFF_FF00;
@@ -33,7 +34,10 @@ fn unsupported_case(attributes: u32) -> Option<Decision>
     ensures { result ≡ unsupported_case attributes }
 {
     let bits = attributes & UNSUPPORTED;
-    refuse_if(has(attributes, UNSUPPORTED), SetReason::Unsupported { bits })
+    refuse_if(
+        has(attributes, UNSUPPORTED),
+        SetReason::Unsupported { bits },
+    )
 }
 
 #[tactic(auto, unfolding(var_types::specs::SetCases::unknown_case))]

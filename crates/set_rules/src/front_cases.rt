@@ -84,12 +84,7 @@ pub(crate) fn front_case(runtime: bool, set: &Reading) -> Option<Decision>
 {
     hidden_case(runtime, set.stored)
         .or(volatile_case(runtime, set.stored))
-        .or(runtime_new_case(
-            runtime,
-            set.stored,
-            set.call.attributes,
-            set.deletes(),
-        ))
+        .or(runtime_new_case(runtime, set.stored, set.call.attributes, set.deletes()))
         .or(descriptor_case(set.front))
         .or(size_case(&set.call.name, set.payload))
 }

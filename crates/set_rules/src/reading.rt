@@ -1,13 +1,13 @@
 ghost use Rattle.std.specs.Prelude.{◌≡◌, ◌≤◌, ℕ, drop, length, IfOk, Some};
 ghost use Rattle.set_rules.specs.Seen.{reading, seen};
 ghost use Rattle.var_types.specs.Policies.{question_of};
-ghost use Rattle.var_types.specs.Attributes.{without_append};
-ghost use Rattle.var_types.specs.Reading.{deletes, front_of, is_deletion, kept_stamp, made_of, skip_of, stamp_of};
+ghost use Rattle.var_types.specs.Attributes.{is_append, without_append};
+ghost use Rattle.var_types.specs.Reading.{deletes, front_of, is_deletion, kept_bytes, kept_stamp, made_of, skip_of, stamp_of};
 ghost use Rattle.var_types.specs.Room.{record_size};
 ghost use Rattle.var_types.specs.Set.{change_of, change_over, question};
 
 use crate::view::Stored;
-use auth_rules::{NO_STAMP, later_of, read_descriptor};
+use auth_rules::{later_of, no_stamp, read_descriptor};
 use var_types::attributes::{has_access, is_append, is_time_based, without_append};
 use var_types::{Ask, Decision, Descriptor, DescriptorFault, SetCall, Stamp, Store};
 
@@ -28,7 +28,7 @@ fn front_of(call: &SetCall) -> Result<Descriptor, DescriptorFault>
         read_descriptor(call.bytes.as_slice())
     } else {
         Ok(Descriptor {
-            stamp: NO_STAMP,
+            stamp: no_stamp(),
             length: 0,
         })
     }
@@ -118,7 +118,7 @@ impl<'a> Reading<'a> {
     {
         match self.front {
             Ok(descriptor) => descriptor.stamp,
-            Err(_) => NO_STAMP,
+            Err(_) => no_stamp(),
         }
     }
 
@@ -130,6 +130,16 @@ impl<'a> Reading<'a> {
         let attributes = self.call.attributes;
         let append = is_time_based(attributes) && is_append(attributes);
         kept_stamp(append, self.stored, self.stamp())
+    }
+
+    /// The bytes that stay before the payload.
+    pub(crate) fn kept_bytes(&self) -> &'a [u8]
+        ensures { result.now ≡ kept_bytes (is_append self.now.call.now.attributes) (seen self.now.stored) }
+    {
+        match self.stored {
+            Some(stored) if is_append(self.call.attributes) => stored.payload,
+            _ => &[],
+        }
     }
 
     /// What policies are asked of the set.

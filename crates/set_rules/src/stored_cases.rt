@@ -15,9 +15,7 @@ use var_types::attributes::{
     TIME_BASED_AUTHENTICATED_WRITE_ACCESS, has, has_access, is_append, is_time_based,
     without_append,
 };
-use var_types::{
-    Decision, Denied, LARGEST_RECORD, SetReason, Stamp, Units, Verdict, record_size,
-};
+use var_types::{Decision, Denied, LARGEST_RECORD, SetReason, Stamp, Units, Verdict, record_size};
 
 /// The bits of a variable that only an authenticated write of a kind that isn't done here may change.
 const AUTHENTICATED: u32 = AUTHENTICATED_WRITE_ACCESS | ENHANCED_AUTHENTICATED_ACCESS;
@@ -106,8 +104,9 @@ fn stamp_case(attributes: u32, stored: Option<Stored>, new: Stamp) -> Option<Dec
         None => None,
         Some(stored) => {
             let stored = stored.stamp;
-            let holds =
-                is_time_based(attributes) && !is_append(attributes) && !is_later(&new, &stored);
+            let holds = is_time_based(attributes)
+                && !is_append(attributes)
+                && !is_later(&new, &stored);
             refuse_if(holds, SetReason::Stamp { stored, new })
         }
     }

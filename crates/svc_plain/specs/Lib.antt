@@ -1,3 +1,4 @@
 pub mod RoomTotals
-pub mod Decision
 pub mod Above
+pub mod Stands
+pub mod Kept

@@ -2,6 +2,10 @@ pub mod PairedUnits
 pub mod Keys
 pub mod Descriptors
 pub mod SetSizes
+pub mod SetCases
+pub mod SetChanges
+pub mod SetEffects
+pub mod Bests
 pub mod Steps
 pub mod ReplyKinds
 pub mod Sessions

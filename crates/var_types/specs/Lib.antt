@@ -17,6 +17,7 @@ pub mod Reading
 pub mod SetCases
 pub mod Set
 pub mod SetLaws
+pub mod PolicyLaws
 pub mod Exit
 pub mod Step
 pub mod History

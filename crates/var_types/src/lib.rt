@@ -15,11 +15,13 @@ mod laws;
 mod name;
 mod out_of_memory;
 mod policy;
+mod policy_laws;
 mod put;
 mod record;
 mod record_state;
 mod reply;
 mod room;
+mod set_laws;
 mod set_reason;
 mod stamp;
 mod store;
@@ -48,11 +50,16 @@ pub use laws::{
 pub use name::{LONGEST_NAME, NameFault, check_name};
 pub use out_of_memory::OutOfMemory;
 pub use policy::{Lock, Policy};
+pub use policy_laws::{best_is_best, off_denies_nothing, stamps_are_in_order};
 pub use put::Put;
 pub use record::Record;
 pub use record_state::RecordState;
 pub use reply::{ExitReply, GetReply, NextReply, Reply, SetReply};
 pub use room::{LARGEST_RECORD, align4, record_size, room_of};
+pub use set_laws::{
+    appends_join, changes_touch_their_key, decisions_decide, hidden_variables_stay,
+    one_case_answers,
+};
 pub use set_reason::SetReason;
 pub use stamp::Stamp;
 pub use store::Store;

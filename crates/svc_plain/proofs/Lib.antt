@@ -2,3 +2,7 @@ mod Sums
 mod Rooms
 mod Nexts
 mod Seen
+mod OnOks
+mod Overwrites
+mod Undenied
+mod Carried

@@ -14,6 +14,7 @@ use std::ops::Bound;
 use var_types::{Key, NextCall, NextReply, Variable};
 
 /// The least key of a map above a bound that callers see, where there is one.
+#[tactic(auto, using(crate::proofs::Nexts::find_above_range))]
 pub(crate) fn key_above<'a>(
     variables: &'a BTreeMap<Key, Variable>,
     runtime: bool,

@@ -1,6 +1,6 @@
 //! What a write puts into the map.
 ghost use Rattle.std.specs.Prelude.{◌≡◌, ◌≤◌, length, IfOk, IsSome, OnOk, OnErr, None, Some};
-ghost use Rattle.std.specs.BTreeMap.{get};
+ghost use Rattle.std.specs.BTreeMap.{IsOrdered, get};
 ghost use Rattle.svc_plain.specs.Written.{IsWritten, written};
 ghost use Rattle.var_types.specs.Key.{key_cmp};
 
@@ -64,6 +64,7 @@ fn overwrite(
     requires there { IsSome (get key_cmp variables.old key.now) }
     requires within { write.now.skip ≤ length call.now.bytes }
     ensures ok { OnOk result (IsWritten variables.old.entries variables.new.entries key.now call.now write.now) }
+    ensures ordered { OnOk result (IsOrdered key_cmp variables.old) }
     ensures err { OnErr result (variables.new.entries ≡ variables.old.entries) }
 {
     match variables.get_mut(key) {
@@ -83,6 +84,7 @@ fn put_new(
     requires absent { get key_cmp variables.old key.now ≡ None }
     requires within { write.now.skip ≤ length call.now.bytes }
     ensures ok { OnOk result (IsWritten variables.old.entries variables.new.entries key.now call.now write.now) }
+    ensures ordered { OnOk result (IsOrdered key_cmp variables.old) }
     ensures err { OnErr result (variables.new.entries ≡ variables.old.entries) }
 {
     let variable = new_variable(alloc, call, write)?;
@@ -100,6 +102,7 @@ pub(crate) fn put(
 ) -> Result<(), OutOfMemory>
     requires { write.now.skip ≤ length call.now.bytes }
     ensures ok { OnOk result (IsWritten variables.old.entries variables.new.entries key.now call.now write.now) }
+    ensures ordered { OnOk result (IsOrdered key_cmp variables.old) }
     ensures err { OnErr result (variables.new.entries ≡ variables.old.entries) }
 {
     if variables.contains_key(key) {

@@ -3,12 +3,14 @@
 
 mod fields;
 mod judgement;
+mod laws;
 mod reading;
 #[cfg(test)]
 mod tests;
 mod times;
 
 pub use judgement::judge;
+pub use laws::judgements_are_the_rules;
 pub use reading::read_descriptor;
 pub use times::{is_later, later_of, no_stamp};
 pub use var_types::{AuthFault, Descriptor, DescriptorFault};

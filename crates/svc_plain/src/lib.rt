@@ -8,6 +8,8 @@ mod plain;
 mod puts;
 mod room_totals;
 #[cfg(test)]
+mod set_tests;
+#[cfg(test)]
 mod tests;
 
 pub use plain::Plain;

@@ -104,6 +104,7 @@ AreWords-call (call.Get c) = (refl, (IsWord-guid_text c.guid, (IsWord-name_text 
 AreWords-call (call.Next c) = (refl, (IsWord-guid_text c.guid, (IsWord-name_text c.name, (IsWord-decimal c.room, tt))))
 AreWords-call (call.Set c) =
     (refl, (IsWord-guid_text c.guid, (IsWord-name_text c.name, (IsWord-attributes_text c.attributes, (IsWord-bytes_text c.bytes, AreWords-verdict c.verdict)))))
+AreWords-call call.ExitBoot = (refl, tt)
 
 -- a call
 IsLine-call : (c : Call) → IsLine (call_text c)

@@ -193,7 +193,7 @@ fn write_denied<P: Put>(place: u32, rule: Rule, out: &mut P)
 
 /// Puts the refusal of an old stamp: both with all their digits, also where one is none.
 #[tactic(auto, unfolding(crate::specs::Replies::reason_text))]
-fn write_stamps<P: Put>(stored: &Stamp, new: &Stamp, out: &mut P)
+fn write_stamps<'x, P: Put>(stored: &'x Stamp, new: &'x Stamp, out: &mut P)
     ensures text { P.Puts out.old out.new (reason_text (reason.Stamp stored.now new.now)) }
     ensures values { AreBytes stored.now.bytes × AreBytes new.now.bytes }
 {

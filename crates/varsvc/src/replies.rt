@@ -191,6 +191,15 @@ fn write_denied<P: Put>(place: u32, rule: Rule, out: &mut P)
     )
 }
 
+/// The bytes of a stamp, as a type tells them.
+fn stamp_bytes(stamp: &Stamp) -> &[u8]
+    ensures items { result.now ≡ stamp.now.bytes }
+    ensures values { AreBytes stamp.now.bytes }
+{
+    let bytes = stamp.bytes.as_slice();
+    bytes
+}
+
 /// Puts the refusal of an old stamp: both with all their digits, also where one is none.
 #[tactic(auto, unfolding(crate::specs::Replies::reason_text))]
 fn write_stamps<'x, P: Put>(stored: &'x Stamp, new: &'x Stamp, out: &mut P)
@@ -201,8 +210,8 @@ fn write_stamps<'x, P: Put>(stored: &'x Stamp, new: &'x Stamp, out: &mut P)
         &[
             Part::Word(Word::SecurityViolation),
             Part::Word(Word::Stamp),
-            Part::Bytes(&stored.bytes),
-            Part::Bytes(&new.bytes),
+            Part::Bytes(stamp_bytes(stored)),
+            Part::Bytes(stamp_bytes(new)),
         ],
         out,
     )

@@ -11,6 +11,7 @@ use Rattle.var_types.specs.declared.call.Call.TheVariants as call
 use Rattle.var_types.specs.declared.call.SetCall.{SetCall}
 use Rattle.var_types.specs.declared.guid.Guid.{Guid}
 use Rattle.var_types.specs.declared.verdict.Verdict.{Verdict}
+use Rattle.var_types.specs.declared.verdict.Verdict.TheVariants.{Bad, Good}
 use Rattle.var_types.specs.Guid.{IsGuid, guid_text}
 use Rattle.var_types.proofs.Guids.{guid_of-guid_text, guid_text_between, length-guid_text}
 use Rattle.script_text.specs.Lines.{is_text, words_of}
@@ -19,7 +20,7 @@ use Rattle.script_text.specs.ReadBack.{IsReadable, IsReadableFind, IsReadableSet
 use Rattle.script_text.specs.Script.{calls_from, most_script_bytes, script_of}
 use Rattle.var_types.specs.Texts.{attributes_text, bytes_text, name_text, spaced}
 use Rattle.script_text.specs.Texts.{call_text, call_words_of, verdict_words}
-use Rattle.script_text.specs.Words.{call_words, get_call, get_words, guid_read, guid_word, line_call, next_call, next_words, set_call, set_words, verb_of, verb_words, words_call}
+use Rattle.script_text.specs.Words.{call_words, exit_words, get_call, get_words, guid_read, guid_word, line_call, next_call, next_words, set_call, set_words, verb_of, verb_words, verdict_of, words_call}
 use Rattle.script_text.proofs.LineLemmas.{lines-ended_line, lines-one_line}
 use Rattle.script_text.proofs.NameTexts.{IsWord-name_text, name_of-name_text}
 use Rattle.script_text.proofs.NumberTexts.{IsWord-attributes_text, IsWord-bytes_text, IsWord-decimal, bytes_of-bytes_text, number_of-attributes_text, number_of-decimal}
@@ -51,6 +52,11 @@ verb_first : (verb : List ℕ) (rest : List (List ℕ)) → 0 < length verb → 
 verb_first verb rest some printed are_words =
     (record { some = omega arith; printed = refl }, (record { some = some; printed = printed }, are_words))
 
+-- the words of a verdict are words
+are_verdict_words : (verdict : Verdict) → AllByRecursion IsWord (verdict_words verdict)
+are_verdict_words Good = tt
+are_verdict_words Bad = (record { some = omega arith; printed = refl }, tt)
+
 -- a call's line is of words
 are_call_words : (call : Call) → IsReadable call → AllByRecursion IsWord (codes "0" ∷ call_words_of call)
 are_call_words (call.Get c) readable =
@@ -60,11 +66,11 @@ are_call_words (call.Next c) readable =
     verb_first (codes "next") (guid_text c.guid ∷ name_text c.name ∷ decimal c.room ∷ []) (omega arith) refl
     (named_words c.guid c.name (decimal c.room ∷ []) (IsWord-decimal c.room readable.room_fits, tt))
 are_call_words (call.Set c) readable =
-    let numbers : List (List ℕ) = attributes_text c.attributes ∷ bytes_text c.bytes ∷ [] in
-    rw readable.good (
-    verb_first (codes "set") (guid_text c.guid ∷ name_text c.name ∷ numbers) (omega arith) refl
-    (named_words c.guid c.name numbers (IsWord-attributes_text c.attributes, (IsWord-bytes_text c.bytes readable.bytes_fit, tt)))
-    )
+    let words : List (List ℕ) = attributes_text c.attributes ∷ bytes_text c.bytes ∷ verdict_words c.verdict in
+    verb_first (codes "set") (guid_text c.guid ∷ name_text c.name ∷ words) (omega arith) refl
+    (named_words c.guid c.name words
+    (IsWord-attributes_text c.attributes, (IsWord-bytes_text c.bytes readable.bytes_fit, are_verdict_words c.verdict)))
+are_call_words call.ExitBoot readable = verb_first (codes "exitboot") [] (omega arith) refl tt
 
 -- ---- the words are read as the call
 
@@ -95,9 +101,9 @@ reads_next guid name room parts =
       number_of-decimal room parts.room_fits,
     ) refl
 
--- the words of a set are read as it
+-- the words of a set are read as it, with the verdict that was read
 reads_set : (c : SetCall) → IsReadableSet c
-    → set_call false (guid_text c.guid) (name_text c.name) (attributes_text c.attributes) (bytes_text c.bytes) ≡ Ok (call.Set c)
+    → set_call (guid_text c.guid) (name_text c.name) (attributes_text c.attributes) (bytes_text c.bytes) (Ok c.verdict) ≡ Ok (call.Set c)
 unfolding set_call
 reads_set c parts =
     rw (
@@ -105,19 +111,26 @@ reads_set c parts =
       name_of-name_text c.name parts.name_fits.0 parts.name_fits.1,
       number_of-attributes_text c.attributes parts.attributes_fit,
       bytes_of-bytes_text c.bytes parts.bytes_fit,
-      parts.so_far,
-    )
-    (ap (λ (verdict : Verdict). Ok (call.Set (record c { verdict = verdict }))) (sym parts.good))
+    ) refl
+
+-- the words behind `set` are read by the words of the verdict
+set_words-verdict : (guid name attributes bytes : List ℕ) (verdict : Verdict)
+    → set_words (guid ∷ name ∷ attributes ∷ bytes ∷ verdict_words verdict) ≡ set_call guid name attributes bytes (Ok verdict)
+unfolding set_words verdict_of
+set_words-verdict guid name attributes bytes Good = refl
+set_words-verdict guid name attributes bytes Bad = refl
 
 -- the words of a call's line are read as the call
 words_call-call : (call : Call) → IsReadable call → words_call (codes "0" ∷ call_words_of call) ≡ Ok (Some (0, call))
-unfolding words_call processor_of call_words verb_of verb_words get_words next_words set_words
+unfolding words_call processor_of call_words verb_of verb_words get_words next_words exit_words
 words_call-call (call.Get c) readable = rw (reads_get c.guid c.name c.room readable) refl
 words_call-call (call.Next c) readable = rw (reads_next c.guid c.name c.room readable) refl
 words_call-call (call.Set c) readable =
-    let front : List (List ℕ) → List (List ℕ) = λ rest.
-    codes "set" ∷ guid_text c.guid ∷ name_text c.name ∷ attributes_text c.attributes ∷ bytes_text c.bytes ∷ rest in
-    ap (λ (verdict : Verdict). words_call (codes "0" ∷ front (verdict_words verdict))) readable.good ∙ rw (reads_set c readable) refl
+    rw (
+      set_words-verdict (guid_text c.guid) (name_text c.name) (attributes_text c.attributes) (bytes_text c.bytes) c.verdict,
+      reads_set c readable,
+    ) refl
+words_call-call call.ExitBoot readable = refl
 
 -- ---- the line is read as the call
 
@@ -127,6 +140,7 @@ unfolding call_text
 line_of-spaced (call.Get c) = refl
 line_of-spaced (call.Next c) = refl
 line_of-spaced (call.Set c) = refl
+line_of-spaced call.ExitBoot = refl
 
 -- the line of a call may stand in a script
 is_text-line_of : (call : Call) → IsReadable call → is_text (line_of call) ≡ true

@@ -8,7 +8,7 @@ use Rattle.script_text.specs.declared.verb.Verb.{Verb}
 use Rattle.script_text.specs.declared.verb.Verb.TheVariants as verb
 use Rattle.script_text.specs.Lines.{is_comment, is_text, words_of}
 use Rattle.script_text.specs.Numbers.{processor_of}
-use Rattle.script_text.specs.Words.{call_words, get_words, line_call, next_words, set_words, verb_of, verb_words, words_call, ◌>>=◌}
+use Rattle.script_text.specs.Words.{call_words, exit_words, get_words, line_call, next_words, set_words, verb_of, verb_words, words_call, ◌>>=◌}
 use Rattle.var_types.specs.declared.call.Call.{Call}
 
 -- a choice that is no refusal is the first of its two
@@ -22,6 +22,7 @@ unfolding verb_words
 verb_words-processor processor verb.Get rest call h = eqb-true processor 0 (chosen_first (processor == 0) call (get_words rest) reason.Later h)
 verb_words-processor processor verb.Next rest call h = eqb-true processor 0 (chosen_first (processor == 0) call (next_words rest) reason.Later h)
 verb_words-processor processor verb.Set rest call h = eqb-true processor 0 (chosen_first (processor == 0) call (set_words rest) reason.Later h)
+verb_words-processor processor verb.ExitBoot rest call h = eqb-true processor 0 (chosen_first (processor == 0) call (exit_words rest) reason.Later h)
 verb_words-processor processor verb.Later rest call h = cc
 
 -- so are the words behind a processor's number

@@ -1,15 +1,13 @@
-use Rattle.std.specs.Prelude.{◌≡◌, ℕ, ◌^◌, ◌<◌, ◌≤◌, true, List, [], ◌∷◌, ◌++◌, length, codes, Ok}
+use Rattle.std.specs.Prelude.{◌≡◌, ℕ, ◌^◌, ◌<◌, ◌≤◌, List, [], ◌∷◌, ◌++◌, length, codes, Ok}
 use Rattle.var_types.specs.declared.call.Call.{Call}
 use Rattle.var_types.specs.declared.call.Call.TheVariants as call
 use Rattle.var_types.specs.declared.call.SetCall.{SetCall}
 use Rattle.var_types.specs.declared.guid.Guid.{Guid}
-use Rattle.var_types.specs.declared.verdict.Verdict.TheVariants.{Good}
 use Rattle.var_types.specs.Guid.{IsGuid}
 use Rattle.var_types.specs.Layout.{most_units}
 use Rattle.var_types.specs.Values.{AreBytes, AreUnits}
 use Rattle.script_text.specs.Script.{most_script_bytes, script_of}
 use Rattle.script_text.specs.Texts.{call_text}
-use Rattle.script_text.specs.Words.{is_set_so_far}
 
 -- the units of a call's name: no more than it may have, each of 16 bits
 abbrev pub IsCallName : List ℕ → Type 0
@@ -21,20 +19,19 @@ pub record IsReadableFind (guid : Guid) (name : List ℕ) (room : ℕ) : Type 0 
   pub name_fits : IsCallName name
   pub room_fits : room < 2 ^ 32
 
--- the parts of a set are values of their types, and scripts hold such sets so far: with a good verdict, and by the attributes
+-- the parts of a set are values of their types
 pub record IsReadableSet (call : SetCall) : Type 0 where
   pub guid_fits : IsGuid call.guid
   pub name_fits : IsCallName call.name
   pub attributes_fit : call.attributes < 2 ^ 32
   pub bytes_fit : AreBytes call.bytes
-  pub good : call.verdict ≡ Good
-  pub so_far : is_set_so_far call.attributes ≡ true
 
--- a call whose line scripts hold so far
+-- the parts of a call are values of their types
 abbrev pub IsReadable : Call → Type 0
 IsReadable (call.Get c) = IsReadableFind c.guid c.name c.room
 IsReadable (call.Next c) = IsReadableFind c.guid c.name c.room
 IsReadable (call.Set c) = IsReadableSet c
+IsReadable call.ExitBoot = Unit {0}
 
 -- the line of a call of processor 0, without its line end
 abbrev pub line_of : Call → List ℕ

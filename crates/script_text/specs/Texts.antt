@@ -17,6 +17,7 @@ call_words_of (call.Get c) = codes "get" ∷ guid_text c.guid ∷ name_text c.na
 call_words_of (call.Next c) = codes "next" ∷ guid_text c.guid ∷ name_text c.name ∷ decimal c.room ∷ []
 call_words_of (call.Set c) =
     codes "set" ∷ guid_text c.guid ∷ name_text c.name ∷ attributes_text c.attributes ∷ bytes_text c.bytes ∷ verdict_words c.verdict
+call_words_of call.ExitBoot = codes "exitboot" ∷ []
 
 -- the text of a call (this project's own)
 unfoldable pub call_text : Call → List ℕ

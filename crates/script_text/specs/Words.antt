@@ -3,7 +3,8 @@ use Rattle.var_types.specs.declared.call.Call.{Call}
 use Rattle.var_types.specs.declared.call.Call.TheVariants as call
 use Rattle.var_types.specs.declared.guid.Guid.{Guid}
 use Rattle.var_types.specs.declared.guid.NotAGuid.{NotAGuid}
-use Rattle.var_types.specs.declared.verdict.Verdict.TheVariants.{Good}
+use Rattle.var_types.specs.declared.verdict.Verdict.{Verdict}
+use Rattle.var_types.specs.declared.verdict.Verdict.TheVariants.{Bad, Good}
 use Rattle.var_types.specs.Guid.{guid_of}
 use Rattle.script_text.specs.declared.line_reason.LineReason.{LineReason}
 use Rattle.script_text.specs.declared.line_reason.LineReason.TheVariants as reason
@@ -28,7 +29,7 @@ is_word text word = pointwise ◌==◌ word text
 abbrev pub is_later_verb : List ℕ → Bool
 is_later_verb word =
     is_word (codes "register") word || is_word (codes "lock") word || is_word (codes "disable") word
-    || is_word (codes "enabled") word || is_word (codes "policy") word || is_word (codes "exitboot") word
+    || is_word (codes "enabled") word || is_word (codes "policy") word
 
 -- the verb of a word (this project's own)
 unfoldable pub verb_of : List ℕ → Result Verb LineReason
@@ -36,6 +37,7 @@ verb_of word =
     if is_word (codes "get") word then Ok verb.Get
     else if is_word (codes "next") word then Ok verb.Next
     else if is_word (codes "set") word then Ok verb.Set
+    else if is_word (codes "exitboot") word then Ok verb.ExitBoot
     else if is_later_verb word then Ok verb.Later
     else Err reason.Verb
 
@@ -63,25 +65,22 @@ next_call guid name room = do
   room ← number_of room
   Ok (call.Next (record { guid = guid; name = name; room = room }))
 
--- the attributes that a set may have so far: none, which deletes, and those of a volatile variable
-abbrev pub is_set_so_far : ℕ → Bool
-is_set_so_far attributes = (attributes == 0) || (attributes == 2) || (attributes == 6)
+-- the verdict of a word (this project's own)
+unfoldable pub verdict_of : List ℕ → Result Verdict LineReason
+verdict_of word =
+    if is_word (codes "good") word then Ok Good
+    else if is_word (codes "bad") word then Ok Bad
+    else Err reason.Verdict
 
--- a set of checked parts; one with a verdict, or with other attributes, is not read yet
-abbrev pub set_so_far : Bool → Guid → List ℕ → ℕ → List ℕ → Result Call LineReason
-set_so_far has_verdict guid name attributes bytes =
-    if not has_verdict && is_set_so_far attributes
-    then Ok (call.Set (record { guid = guid; name = name; attributes = attributes; bytes = bytes; verdict = Good }))
-    else Err reason.Later
-
--- a set by its GUID, its name, its attributes and its bytes
-unfoldable pub set_call : Bool → List ℕ → List ℕ → List ℕ → List ℕ → Result Call LineReason
-set_call has_verdict guid name attributes bytes = do
+-- a set by its GUID, its name, its attributes, its bytes, and what was read of its verdict
+unfoldable pub set_call : List ℕ → List ℕ → List ℕ → List ℕ → Result Verdict LineReason → Result Call LineReason
+set_call guid name attributes bytes verdict = do
   guid ← guid_word guid
   name ← name_of name
   attributes ← number_of attributes
   bytes ← bytes_of bytes
-  set_so_far has_verdict guid name attributes bytes
+  verdict ← verdict
+  Ok (call.Set (record { guid = guid; name = name; attributes = attributes; bytes = bytes; verdict = verdict }))
 
 -- the words behind `get`
 unfoldable pub get_words : List (List ℕ) → Result Call LineReason
@@ -93,17 +92,23 @@ unfoldable pub next_words : List (List ℕ) → Result Call LineReason
 next_words (guid ∷ name ∷ room ∷ []) = next_call guid name room
 next_words _ = Err reason.Words
 
--- the words behind `set`
+-- the words behind `set`: without a verdict it is good
 unfoldable pub set_words : List (List ℕ) → Result Call LineReason
-set_words (guid ∷ name ∷ attributes ∷ bytes ∷ []) = set_call false guid name attributes bytes
-set_words (guid ∷ name ∷ attributes ∷ bytes ∷ verdict ∷ []) = set_call true guid name attributes bytes
+set_words (guid ∷ name ∷ attributes ∷ bytes ∷ []) = set_call guid name attributes bytes (Ok Good)
+set_words (guid ∷ name ∷ attributes ∷ bytes ∷ verdict ∷ []) = set_call guid name attributes bytes (verdict_of verdict)
 set_words _ = Err reason.Words
+
+-- the words behind `exitboot`: there are none
+unfoldable pub exit_words : List (List ℕ) → Result Call LineReason
+exit_words [] = Ok call.ExitBoot
+exit_words _ = Err reason.Words
 
 -- the words behind a verb; so far, processor 0 alone makes calls
 unfoldable pub verb_words : ℕ → Verb → List (List ℕ) → Result Call LineReason
 verb_words processor verb.Get rest = if processor == 0 then get_words rest else Err reason.Later
 verb_words processor verb.Next rest = if processor == 0 then next_words rest else Err reason.Later
 verb_words processor verb.Set rest = if processor == 0 then set_words rest else Err reason.Later
+verb_words processor verb.ExitBoot rest = if processor == 0 then exit_words rest else Err reason.Later
 verb_words processor verb.Later rest = Err reason.Later
 
 -- the words behind the processor's number

@@ -57,5 +57,6 @@ pub fn write_call<P: Put>(call: &Call, out: &mut P)
         Call::Get(call) => write_find(b"get", &call.guid, &call.name, call.room, out),
         Call::Next(call) => write_find(b"next", &call.guid, &call.name, call.room, out),
         Call::Set(call) => write_set(call, out),
+        Call::ExitBoot => out.put(b"exitboot"),
     }
 }

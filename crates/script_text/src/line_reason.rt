@@ -21,4 +21,6 @@ pub enum LineReason {
     Number,
     #[error("a word is no hexadecimal bytes")]
     Hex,
+    #[error("a word is no verdict")]
+    Verdict,
 }

@@ -33,7 +33,7 @@ fn texts_of(rt: &HostRuntime, script: Script) -> Result<Vec<u8>, Fail> {
 
 #[test]
 fn reads(rt: HostRuntime) -> Result<(), Fail> {
-    let table: [(&[u8], &[u8]); 22] = [
+    let table: [(&[u8], &[u8]); 28] = [
         (b"", b""),
         (b"\n \n\t\n\r\n", b""),
         (b"0 get G A 16", b"get G A 16\n"),
@@ -61,6 +61,12 @@ fn reads(rt: HostRuntime) -> Result<(), Fail> {
         (b"0 set G A 6 -", b"set G A 0x00000006 -\n"),
         (b"0 set G A 0x6 01fF", b"set G A 0x00000006 01ff\n"),
         (b"0 set G %002D 6 00", b"set G %002d 0x00000006 00\n"),
+        (b"0 set G A 0x67 01 good", b"set G A 0x00000067 01\n"),
+        (b"0 set G A 0x27 01 bad", b"set G A 0x00000027 01 bad\n"),
+        (b"0 set G A 0xFFFFFFFF - bad", b"set G A 0xffffffff - bad\n"),
+        (b"0 set G A 4294967295 -", b"set G A 0xffffffff -\n"),
+        (b"0 set G A 0x47 01\tgood ", b"set G A 0x00000047 01\n"),
+        (b" 0\texitboot \r\n", b"exitboot\n"),
         (
             b"0 set G -%0025%000A~! 6 -",
             b"set G -%0025%000a~! 0x00000006 -\n",
@@ -118,10 +124,9 @@ fn refuses_a_line_by_its_front(rt: HostRuntime) -> Result<(), Fail> {
                 b"0 disable",
                 b"0 enabled",
                 b"0 policy",
-                b"0 exitboot",
-                b"0 set G A 3 01",
-                b"0 set G A 0x7 01",
-                b"0 set G A 6 01 good",
+                b"0 policy x y",
+                b"1 exitboot",
+                b"7 exitboot now",
             ],
         ),
     ];
@@ -133,7 +138,7 @@ fn refuses_a_line_by_its_front(rt: HostRuntime) -> Result<(), Fail> {
 
 #[test]
 fn refuses_a_line_by_its_words(rt: HostRuntime) -> Result<(), Fail> {
-    let table: [(LineReason, &[&[u8]]); 5] = [
+    let table: [(LineReason, &[&[u8]]); 6] = [
         (
             LineReason::Words,
             &[
@@ -142,7 +147,11 @@ fn refuses_a_line_by_its_words(rt: HostRuntime) -> Result<(), Fail> {
                 b"0 get x A 1 2",
                 b"0 next G A",
                 b"0 set G A 6",
-                b"0 set G A 6 01 good x",
+                b"0 set",
+                b"0 set G",
+                b"0 set x A 6 01 good y",
+                b"0 exitboot 0",
+                b"0 exitboot - -",
             ],
         ),
         (
@@ -176,6 +185,16 @@ fn refuses_a_line_by_its_words(rt: HostRuntime) -> Result<(), Fail> {
                 b"0 set G A 6 abc",
                 b"0 set G A 6 zz",
                 b"0 set G A 6 0g good",
+                b"0 set G A 6 0g worse",
+            ],
+        ),
+        (
+            LineReason::Verdict,
+            &[
+                b"0 set G A 6 01 Good",
+                b"0 set G A 6 01 badly",
+                b"0 set G A 6 01 -",
+                b"0 set G A 0x27 - goo",
             ],
         ),
     ];

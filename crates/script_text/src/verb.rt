@@ -4,6 +4,7 @@ pub enum Verb {
     Get,
     Next,
     Set,
+    ExitBoot,
     /// A verb of the format whose lines are not read yet.
     Later,
 }

@@ -1,6 +1,6 @@
 ghost use Rattle.std.specs.Prelude.{◌≡◌, map};
 ghost use Rattle.script_text.specs.GivesLine.{GivesLine};
-ghost use Rattle.script_text.specs.Words.{is_later_verb, verb_of, guid_word, get_call, next_call, is_set_so_far, set_so_far, set_call, get_words, next_words, set_words, verb_words, call_words, words_call, line_call};
+ghost use Rattle.script_text.specs.Words.{is_later_verb, verb_of, guid_word, verdict_of, get_call, next_call, set_call, get_words, next_words, set_words, exit_words, verb_words, call_words, words_call, line_call};
 
 use crate::line_fault::LineFault;
 use crate::lines::{is_comment, is_text, words_of};
@@ -8,8 +8,7 @@ use crate::names::name_of;
 use crate::numbers::{bytes_of, number_of, processor_of};
 use crate::{LineReason, Verb};
 use std::alloc::Global;
-use var_types::attributes::{BOOTSERVICE_ACCESS, RUNTIME_ACCESS};
-use var_types::{Bytes, Call, GetCall, Guid, NextCall, SetCall, Units, Verdict};
+use var_types::{Call, GetCall, Guid, NextCall, SetCall, Verdict};
 
 fn is_later_verb(word: &[u8]) -> bool
     ensures { result ≡ is_later_verb word.now }
@@ -19,7 +18,6 @@ fn is_later_verb(word: &[u8]) -> bool
         || word == b"disable".as_slice()
         || word == b"enabled".as_slice()
         || word == b"policy".as_slice()
-        || word == b"exitboot".as_slice()
 }
 
 #[tactic(auto, unfolding(crate::specs::Words::verb_of))]
@@ -34,6 +32,9 @@ fn verb_of(word: &[u8]) -> Result<Verb, LineReason>
     }
     if word == b"set".as_slice() {
         return Ok(Verb::Set);
+    }
+    if word == b"exitboot".as_slice() {
+        return Ok(Verb::ExitBoot);
     }
     if is_later_verb(word) {
         return Ok(Verb::Later);
@@ -71,53 +72,43 @@ fn next_call(alloc: Global, guid: &[u8], name: &[u8], room: &[u8]) -> Result<Cal
     Ok(Call::Next(NextCall { guid, name, room }))
 }
 
-// Whether a set may have these attributes so far: none, which deletes, or those of a volatile variable.
-fn is_set_so_far(attributes: u32) -> bool
-    ensures { result ≡ is_set_so_far attributes }
+#[tactic(auto, unfolding(crate::specs::Words::verdict_of))]
+fn verdict_of(word: &[u8]) -> Result<Verdict, LineReason>
+    ensures { result ≡ verdict_of word.now }
 {
-    attributes == 0
-        || attributes == BOOTSERVICE_ACCESS
-        || attributes == BOOTSERVICE_ACCESS | RUNTIME_ACCESS
-}
-
-fn set_so_far(
-    has_verdict: bool,
-    guid: Guid,
-    name: Units,
-    attributes: u32,
-    bytes: Bytes,
-) -> Result<Call, LineReason>
-    ensures { result ≡ set_so_far has_verdict guid name attributes bytes }
-{
-    if has_verdict || !is_set_so_far(attributes) {
-        return Err(LineReason::Later);
+    if word == b"good".as_slice() {
+        return Ok(Verdict::Good);
     }
-    Ok(Call::Set(SetCall {
-        guid,
-        name,
-        attributes,
-        bytes,
-        verdict: Verdict::Good,
-    }))
+    if word == b"bad".as_slice() {
+        return Ok(Verdict::Bad);
+    }
+    Err(LineReason::Verdict)
 }
 
+// The verdict is the last word of the line, so what was read of it counts only behind the others.
 #[tactic(auto, unfolding(crate::specs::Words::set_call))]
 fn set_call(
     alloc: Global,
-    has_verdict: bool,
     guid: &[u8],
     name: &[u8],
     attributes: &[u8],
     bytes: &[u8],
+    verdict: Result<Verdict, LineReason>,
 ) -> Result<Call, LineFault>
-    ensures { GivesLine result (set_call has_verdict guid.now name.now attributes.now bytes.now) }
+    ensures { GivesLine result (set_call guid.now name.now attributes.now bytes.now verdict) }
 {
     let guid = guid_word(guid)?;
     let name = name_of(alloc, name)?;
     let attributes = number_of(attributes)?;
     let bytes = bytes_of(alloc, bytes)?;
-    let call = set_so_far(has_verdict, guid, name, attributes, bytes)?;
-    Ok(call)
+    let verdict = verdict?;
+    Ok(Call::Set(SetCall {
+        guid,
+        name,
+        attributes,
+        bytes,
+        verdict,
+    }))
 }
 
 #[tactic(auto, unfolding(crate::specs::Words::get_words))]
@@ -145,8 +136,22 @@ fn set_words(alloc: Global, words: &[&[u8]]) -> Result<Call, LineFault>
     ensures { GivesLine result (set_words (map (λ word. word.now) words.now)) }
 {
     match words {
-        [guid, name, attributes, bytes] => set_call(alloc, false, guid, name, attributes, bytes),
-        [guid, name, attributes, bytes, _] => set_call(alloc, true, guid, name, attributes, bytes),
+        [guid, name, attributes, bytes] => {
+            set_call(alloc, guid, name, attributes, bytes, Ok(Verdict::Good))
+        }
+        [guid, name, attributes, bytes, verdict] => {
+            set_call(alloc, guid, name, attributes, bytes, verdict_of(verdict))
+        }
+        _ => Err(LineFault::Reason(LineReason::Words)),
+    }
+}
+
+#[tactic(auto, unfolding(crate::specs::Words::exit_words))]
+fn exit_words(words: &[&[u8]]) -> Result<Call, LineFault>
+    ensures { GivesLine result (exit_words (map (λ word. word.now) words.now)) }
+{
+    match words {
+        [] => Ok(Call::ExitBoot),
         _ => Err(LineFault::Reason(LineReason::Words)),
     }
 }
@@ -159,6 +164,7 @@ fn verb_words(alloc: Global, processor: u8, verb: Verb, rest: &[&[u8]]) -> Resul
         Verb::Get if processor == 0 => get_words(alloc, rest),
         Verb::Next if processor == 0 => next_words(alloc, rest),
         Verb::Set if processor == 0 => set_words(alloc, rest),
+        Verb::ExitBoot if processor == 0 => exit_words(rest),
         _ => Err(LineFault::Reason(LineReason::Later)),
     }
 }

@@ -1,4 +1,8 @@
-pub mod Sums
-pub mod Rooms
-pub mod Decisions
-pub mod Nexts
+mod Sums
+mod Rooms
+mod Nexts
+mod Seen
+mod OnOks
+mod Overwrites
+mod Undenied
+mod Carried

@@ -1,40 +1,40 @@
--- The least key above a bound is that of the first entry of a range from the bound on.
+-- The least key above a bound that a test finds is found in the range from the bound on.
 use Rattle.std.proofs.Common.{◌≡◌, Bool, true, false, List, [], ◌∷◌, refl, sym, ap, ◌∙◌}
 use Rattle.std.proofs.Math.Bool.{and-true}
 use Rattle.std.proofs.lemmas.List.Elements.{filter_agree}
 use Rattle.std.specs.BTreeMap.Range.{entries_between, range_contains}
 use Rattle.std.specs.List.{filter, find}
-use Rattle.std.specs.Option.{option_map}
 use Rattle.std.specs.Ordering.{is_lt}
-use Rattle.std.specs.Prelude.{Option, Some, None, cond}
+use Rattle.std.specs.Prelude.{Option, Some, None, cond, ◌&&◌}
 use Rattle.std.specs.declared.ops.Bound.TheVariants.{Unbounded}
 use Rattle.svc_plain.specs.Above.{start_above}
-use Rattle.var_types.proofs.Orders.{first_of}
 use Rattle.var_types.specs.Key.{key_cmp}
 use Rattle.var_types.specs.Next.{is_above}
 use Rattle.var_types.specs.declared.key.Key.{Key}
 use Rattle.var_types.specs.declared.variable.Variable.{Variable}
 
--- one element more, which the test may find
-find_case : {X : Type 0} (x : X) (found : Option X) (rest : List X) (b : Bool) → found ≡ first_of rest
-    → cond b (Some x) found ≡ first_of (cond b (x ∷ rest) rest)
-find_case x found rest true h = refl
-find_case x found rest false h = h
-
--- what a search finds is the first element that passes
-pub find-filter : {X : Type 0} (p : X → Bool) (xs : List X) → find p xs ≡ first_of (filter p xs)
-find-filter p [] = refl
-find-filter p (x ∷ xs) = find_case x (find p xs) (filter p xs) (p x) (find-filter p xs)
+-- a search by two tests is one by the first among what passes the second
+find_both : {X : Type 0} (p q : X → Bool) (xs : List X) → find (λ x. p x && q x) xs ≡ find p (filter q xs)
+find_both p q [] = refl
+find_both p q (x ∷ xs) = by (p x) (q x) refl (find_both p q xs)
+  where
+    by : (a b : Bool) → p x ≡ a → find (λ x. p x && q x) xs ≡ find p (filter q xs)
+        → cond (a && b) (Some x) (find (λ x. p x && q x) xs) ≡ find p (cond b (x ∷ filter q xs) (filter q xs))
+    by true true e h = sym (ap (λ c. cond c (Some x) (find p (filter q xs))) e)
+    by true false e h = h
+    by false true e h = h ∙ sym (ap (λ c. cond c (Some x) (find p (filter q xs))) e)
+    by false false e h = h
 
 -- a range with no end has the keys above its start
 contains-above : (bound : Option Key) (key : Key) → range_contains key_cmp (start_above bound) Unbounded key ≡ is_above bound key
 contains-above None key = refl
 contains-above (Some b) key = and-true (is_lt (key_cmp b key))
 
--- the least key above a bound is that of the first entry of the range above it
-pub key_above-range : (bound : Option Key) (es : List (Key × Variable))
-    → option_map (λ e. e.0) (find (λ e. is_above bound e.0) es) ≡ option_map (λ e. e.0) (first_of (entries_between key_cmp (start_above bound) Unbounded es))
-key_above-range bound es =
-    ap (option_map (λ e. e.0))
-    (find-filter (λ e. is_above bound e.0) es
-    ∙ ap first_of (filter_agree (λ e. is_above bound e.0) (λ e. range_contains key_cmp (start_above bound) Unbounded e.0) (λ e. sym (contains-above bound e.0)) es))
+-- the first entry above a bound that a test finds is the first that it finds in the range above it
+pub find_above_range : (p : Key × Variable → Bool) (bound : Option Key) (es : List (Key × Variable))
+    → find (λ e. p e && is_above bound e.0) es ≡ find p (entries_between key_cmp (start_above bound) Unbounded es)
+find_above_range p bound es =
+    find_both p (λ e. is_above bound e.0) es
+    ∙ ap (find p)
+    (filter_agree (λ e. is_above bound e.0) (λ e. range_contains key_cmp (start_above bound) Unbounded e.0)
+    (λ e. sym (contains-above bound e.0)) es)

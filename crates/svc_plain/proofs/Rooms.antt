@@ -1,5 +1,6 @@
 -- How the totals go with the variables.
-use Rattle.std.proofs.Common.{◌≡◌, ℕ, ◌+◌, ◌-◌, ◌≤◌, ◌<◌, ◌^◌, List, length, refl, subst, sym, ap, ◌∙◌, arith}
+use Rattle.std.proofs.Common.{◌≡◌, ℕ, cond, ◌+◌, ◌-◌, ◌≤◌, ◌<◌, ◌^◌, List, length, refl, subst, sym, ap, ◌∙◌, arith}
+use Rattle.std.proofs.lemmas.Cmp.{tied_itself}
 use Rattle.std.specs.BTreeMap.{is_at, insert_entry}
 use Rattle.std.specs.List.Sorted.{IsStrictlySortedBy}
 use Rattle.std.specs.Map.{keys_of, lookup, remove_entry}
@@ -8,8 +9,9 @@ use Rattle.std.specs.declared.cmp.Ordering.{Ordering}
 use Rattle.std.specs.declared.cmp.Ordering.TheVariants.{Less, Equal, Greater}
 use Rattle.std.specs.Ordering.{is_eq}
 use Rattle.svc_plain.proofs.Sums.{weight_at, sum_by-remove_entry, sum_by-insert_entry}
-use Rattle.svc_plain.specs.RoomTotals.{IsTotalOf, total_of, totals_with, totals_without}
+use Rattle.svc_plain.specs.RoomTotals.{HasRoom, IsTotalOf, total_of, totals_and, totals_with, totals_without}
 use Rattle.svc_plain.specs.declared.room_totals.RoomTotals.{RoomTotals}
+use Rattle.var_types.proofs.Entries.{lookup-insert_entry}
 use Rattle.var_types.proofs.Keys.{key_cmp_total, same_key}
 use Rattle.var_types.specs.Attributes.{store_of}
 use Rattle.var_types.specs.Key.{key_cmp}
@@ -139,3 +141,35 @@ IsTotalOf-rest totals rest key found es variables c without is seen =
     let r = without ∙ ap (totals_without totals key) is in
     subst (λ (vs : List (Key × Variable)). IsTotalOf rest (remove_entry (is_at (key_cmp key)) vs)) seen
     (subst (λ (u : RoomTotals). IsTotalOf u (remove_entry (is_at (key_cmp key)) es)) (sym r) (IsTotalOf-without totals key es c))
+
+-- what is found at a key after a variable was put there
+pub found_put : (es : List (Key × Variable)) (key : Key) (v : Variable)
+    → lookup (is_at (key_cmp key)) (insert_entry key_cmp es key v) ≡ Some v
+found_put es key v =
+    lookup-insert_entry key_cmp_total key v es key
+    ∙ ap (λ b. cond b (Some v) (lookup (is_at (key_cmp key)) es)) (ap is_eq (tied_itself key_cmp_total key))
+
+-- no store has more room than the volatile one
+limit_most : (store : Store) → room_limit store ≤ 65508
+limit_most NonVolatile = omega arith
+limit_most Volatile = omega arith
+
+module _ (rest : RoomTotals) (key : Key) (v : Variable) (es : List (Key × Variable)) (c : IsTotalOf rest (remove_entry (is_at (key_cmp key)) es)) (room : HasRoom es key v) where
+  -- a variable that has room fits its store beside the total of the others
+  fits_total : total_of rest (store_of v.attributes) + room_of key v ≤ room_limit (store_of v.attributes)
+  fits_total = omega (arith, c.summed (store_of v.attributes), room)
+
+  -- so the total with what is found once it was put can be counted
+  pub counts_found : (found : Option Variable) → found ≡ Some v
+      → IfSome found (λ w. total_of rest (store_of w.attributes) + room_of key w ≤ 65508)
+  counts_found found is =
+      subst (λ (o : Option Variable). IfSome o (λ w. total_of rest (store_of w.attributes) + room_of key w ≤ 65508)) (sym is)
+      (omega (arith, fits_total, limit_most (store_of v.attributes)))
+
+  -- the totals with what is found once it was put are those of all variables then
+  pub IsTotalOf-found : (totals : RoomTotals) (found : Option Variable) (new : List (Key × Variable)) → IsStrictlySortedBy key_cmp (keys_of es)
+      → new ≡ insert_entry key_cmp es key v → found ≡ Some v → totals ≡ totals_and rest key found → IsTotalOf totals new
+  IsTotalOf-found totals found new sorted put is counted =
+      let after : totals ≡ totals_and rest key (Some v) = counted ∙ ap (totals_and rest key) is in
+      subst (λ (u : RoomTotals). IsTotalOf u new) (sym after)
+      (subst (λ (vs : List (Key × Variable)). IsTotalOf (totals_and rest key (Some v)) vs) (sym put) (IsTotalOf-put rest key v es sorted c fits_total))

@@ -1,4 +1,4 @@
 pub mod RoomTotals
 pub mod Above
 pub mod Stands
-pub mod Kept
+pub mod Written

@@ -1,11 +1,14 @@
 //! The one-thread variable service over an ordered map, to which every other way of answering is compared.
 #![tactic(auto)]
 
-mod decision;
+mod gets;
+mod key_view;
 mod next;
 mod plain;
+mod puts;
 mod room_totals;
-mod rules;
+#[cfg(test)]
+mod set_tests;
 #[cfg(test)]
 mod tests;
 

@@ -1,29 +1,36 @@
-ghost use Rattle.std.specs.Prelude.{◌≡◌, ℕ, ◌^◌, ◌+◌, ◌<◌, ◌≤◌, true, false, [], length, IfSome, Some};
-ghost use Rattle.std.specs.BTreeMap.{get, insert_entry, is_at};
-ghost use Rattle.std.specs.List.Sorted.{IsStrictlySortedBy};
-ghost use Rattle.std.specs.Map.{keys_of, remove_entry};
+ghost use Rattle.std.specs.Prelude.{◌≡◌, ◌+◌, ◌<◌, ◌≤◌, true, false, [], length, IfSome, Some};
+ghost use Rattle.std.specs.BTreeMap.{insert_entry, is_at};
+ghost use Rattle.std.specs.Map.{lookup, remove_entry};
 ghost use Rattle.std.specs.Option.{option_copied};
+ghost use Rattle.svc_plain.specs.RoomTotals.{HasRoom, IsTotalOf, total_of, totals_and, totals_without};
+ghost use Rattle.svc_plain.specs.Written.{written};
 ghost use Rattle.var_types.specs.Attributes.{store_of};
-ghost use Rattle.var_types.specs.Get.{get_reply, get_found};
+ghost use Rattle.var_types.specs.Exit.{exit_step};
+ghost use Rattle.var_types.specs.Get.{get_found, get_reply};
 ghost use Rattle.var_types.specs.Key.{key_cmp, key_of};
-ghost use Rattle.var_types.specs.Layout.{largest_record};
 ghost use Rattle.var_types.specs.Next.{next_reply, next_named, next_behind, next_above};
-ghost use Rattle.var_types.specs.Room.{record_size, room_of};
-ghost use Rattle.var_types.specs.Set.{set_step, set_named, set_stored, set_put, set_key, set_change, made_by};
+ghost use Rattle.var_types.specs.Reading.{set_key};
+ghost use Rattle.var_types.specs.Room.{room_of};
+ghost use Rattle.var_types.specs.Set.{changed, decision, set_step};
+ghost use Rattle.var_types.specs.SetLaws.{Follows};
 ghost use Rattle.var_types.specs.State.{start, stored_at, visible_at};
 ghost use Rattle.var_types.specs.Step.{step, lacks_memory};
-ghost use Rattle.svc_plain.specs.RoomTotals.{IsTotalOf, total_of, totals_without};
+ghost use Rattle.var_types.specs.declared.decision.Decision.TheVariants.{Remove as Removing, Write as Writing};
+ghost use Rattle.var_types.specs.declared.reply.SetReply.TheVariants.{Ok as Changed};
 
-use crate::decision::{Decision, decision_of};
+use crate::gets::{get_stored, shown_at};
+use crate::key_view::KeyView;
 use crate::next::{key_above, next_found};
+use crate::puts::{Write, put};
 use crate::room_totals::RoomTotals;
-use crate::rules::{key_of, made_by, room_made};
+use set_rules::decide;
 use std::alloc::Global;
 use std::collections::BTreeMap;
 use std::marker::Model;
+use std::mem::replace;
 use var_types::{
-    Bytes, Call, GetCall, GetReply, Key, LARGEST_RECORD, NameFault, NextCall, NextReply, Reply,
-    SetCall, SetReason, SetReply, Store, Variable, check_name, record_size, room_of,
+    Call, Decision, ExitReply, GetCall, GetReply, Key, NameFault, NextCall, NextReply, Reply,
+    SetCall, SetReply, Store, Variable, check_name, decisions_decide, room_of,
 };
 
 /// The variable service on one thread, which starts with no variable.
@@ -31,7 +38,10 @@ use var_types::{
 pub struct Plain {
     alloc: Global,
     variables: BTreeMap<Key, Variable>,
+    /// The key of the present call, so that a look-up takes no memory where an earlier one took as much.
+    probe: Key,
     totals: RoomTotals,
+    runtime: bool,
     made: u64,
     limit: u64,
 }
@@ -48,7 +58,7 @@ impl Model for Plain {
       policies = [];
       policy_on = true;
       locked = false;
-      runtime = false;
+      runtime = p.runtime;
       made = p.made;
       limit = p.limit;
     } };
@@ -64,10 +74,12 @@ impl Plain {
         Plain {
             alloc,
             variables: BTreeMap::new(alloc),
+            probe: Key::empty(alloc),
             totals: RoomTotals {
                 non_volatile: 0,
                 volatile: 0,
             },
+            runtime: false,
             made: 0,
             limit,
         }
@@ -83,6 +95,7 @@ impl Plain {
             Call::Get(get) => Reply::Get(self.get_reply(get)),
             Call::Next(next) => Reply::Next(self.next_reply(next)),
             Call::Set(set) => Reply::Set(self.set_step(set)),
+            Call::ExitBoot => Reply::Exit(self.exit_step()),
         }
     }
 
@@ -95,8 +108,9 @@ impl Plain {
 
     /// A get, by its name.
     #[tactic(auto, unfolding(var_types::specs::Get::get_reply))]
-    fn get_reply(&self, call: &GetCall) -> GetReply
-        ensures { lacks_memory (Call.Get call.now) (Reply.Get result) ≡ false → result ≡ get_reply self.now call.now }
+    fn get_reply(&mut self, call: &GetCall) -> GetReply
+        ensures done { lacks_memory (Call.Get call.now) (Reply.Get result) ≡ false → result ≡ get_reply self.old call.now }
+        ensures same { self.new ≡ self.old }
     {
         match check_name(call.name.as_slice()) {
             Err(_) => GetReply::NotFound,
@@ -105,25 +119,34 @@ impl Plain {
     }
 
     /// A get under a well-formed name.
-    fn get_visible(&self, call: &GetCall) -> GetReply
-        ensures { lacks_memory (Call.Get call.now) (Reply.Get result) ≡ false
-            → result ≡ get_found (visible_at self.now (key_of call.now.guid call.now.name)) call.now.room }
+    fn get_visible(&mut self, call: &GetCall) -> GetReply
+        ensures done { lacks_memory (Call.Get call.now) (Reply.Get result) ≡ false
+            → result ≡ get_found (visible_at self.old (key_of call.now.guid call.now.name)) call.now.room }
+        ensures same { self.new ≡ self.old }
     {
-        get_stored(self.alloc, &self.variables, call)
+        get_stored(
+            self.alloc,
+            &self.variables,
+            self.runtime,
+            &mut self.probe,
+            call,
+        )
     }
 
     /// A call for the next name, by the name that it goes on from.
     #[tactic(auto, unfolding(var_types::specs::Next::next_reply))]
-    fn next_reply(&self, call: &NextCall) -> NextReply
-        ensures { lacks_memory (Call.Next call.now) (Reply.Next result) ≡ false → result ≡ next_reply self.now call.now }
+    fn next_reply(&mut self, call: &NextCall) -> NextReply
+        ensures done { lacks_memory (Call.Next call.now) (Reply.Next result) ≡ false → result ≡ next_reply self.old call.now }
+        ensures same { self.new ≡ self.old }
     {
         self.next_named(call, check_name(call.name.as_slice()))
     }
 
     /// A call for the next name, by what the check of the name that it goes on from says.
     #[tactic(auto, unfolding(var_types::specs::Next::next_named))]
-    fn next_named(&self, call: &NextCall, named: Result<(), NameFault>) -> NextReply
-        ensures { lacks_memory (Call.Next call.now) (Reply.Next result) ≡ false → result ≡ next_named self.now call.now named }
+    fn next_named(&mut self, call: &NextCall, named: Result<(), NameFault>) -> NextReply
+        ensures done { lacks_memory (Call.Next call.now) (Reply.Next result) ≡ false → result ≡ next_named self.old call.now named }
+        ensures same { self.new ≡ self.old }
     {
         match named {
             Err(NameFault::Empty) => next_found(call, self.next_above(None)),
@@ -132,172 +155,141 @@ impl Plain {
         }
     }
 
-    /// The answer behind a key, which must be a variable's.
-    fn next_behind(&self, call: &NextCall) -> NextReply
-        ensures { lacks_memory (Call.Next call.now) (Reply.Next result) ≡ false
-            → result ≡ next_behind self.now call.now (visible_at self.now (key_of call.now.guid call.now.name)) }
+    /// The answer behind a key, which must be that of a variable that callers see.
+    fn next_behind(&mut self, call: &NextCall) -> NextReply
+        ensures done { lacks_memory (Call.Next call.now) (Reply.Next result) ≡ false
+            → result ≡ next_behind self.old call.now (visible_at self.old (key_of call.now.guid call.now.name)) }
+        ensures same { self.new ≡ self.old }
     {
-        let Ok(key) = key_of(call.guid, &call.name) else {
+        if self.probe.assign(call.guid, &call.name).is_err() {
             return NextReply::OutOfMemory;
-        };
-        match self.variables.get(&key) {
+        }
+        match shown_at(&self.variables, self.runtime, &self.probe) {
             None => NextReply::NoSuch,
-            Some(_) => next_found(call, self.next_above(Some(&key))),
+            Some(_) => next_found(call, self.next_above(Some(&self.probe))),
         }
     }
 
-    /// The least key above a bound, where there is one: in the boot phase callers see every variable.
+    /// The least key above a bound that callers see, where there is one.
     fn next_above(&self, bound: Option<&Key>) -> Option<&Key>
         ensures { option_copied result ≡ next_above self.now (option_copied bound.entry) }
     {
-        key_above(&self.variables, bound)
+        key_above(&self.variables, self.runtime, bound)
     }
 
-    /// A set, by its name.
-    #[tactic(auto, unfolding(var_types::specs::Set::set_step, var_types::specs::Set::set_named))]
+    /// The end of the boot phase.
+    #[tactic(auto, unfolding(var_types::specs::Exit::exit_step))]
+    fn exit_step(&mut self) -> ExitReply
+        ensures { (result, self.new) ≡ exit_step self.old }
+    {
+        if self.runtime {
+            return ExitReply::Same;
+        }
+        if self.limit <= self.made {
+            return ExitReply::HistoryFull { made: self.made };
+        }
+        self.runtime = true;
+        self.made += 1;
+        ExitReply::Ok
+    }
+
+    /// A set, whose key is made in the memory of the one before.
     fn set_step(&mut self, call: &SetCall) -> SetReply
         ensures done { lacks_memory (Call.Set call.now) (Reply.Set result) ≡ false → (result, self.new) ≡ set_step self.old call.now }
         ensures memory { lacks_memory (Call.Set call.now) (Reply.Set result) ≡ true → self.new ≡ self.old }
     {
-        match check_name(call.name.as_slice()) {
-            Err(fault) => SetReply::Refused(SetReason::Name(fault)),
-            Ok(()) => self.set_named(call),
-        }
+        let mut key = replace(&mut self.probe, Key::empty(self.alloc));
+        let reply = if key.assign(call.guid, &call.name).is_ok() {
+            self.set_at(&key, call)
+        } else {
+            SetReply::OutOfMemory
+        };
+        self.probe = key;
+        reply
     }
 
-    /// A set under a well-formed name.
-    #[tactic(auto, unfolding(var_types::specs::Set::set_named))]
-    fn set_named(&mut self, call: &SetCall) -> SetReply
-        ensures done { lacks_memory (Call.Set call.now) (Reply.Set result) ≡ false → (result, self.new) ≡ set_named self.old call.now (Ok tt) }
+    /// A set at its key, by what the set rule decides.
+    fn set_at(&mut self, key: &Key, call: &SetCall) -> SetReply
+        requires { key.now ≡ set_key call.now }
+        ensures done { lacks_memory (Call.Set call.now) (Reply.Set result) ≡ false → (result, self.new) ≡ set_step self.old call.now }
         ensures memory { lacks_memory (Call.Set call.now) (Reply.Set result) ≡ true → self.new ≡ self.old }
     {
-        let have = record_size(&call.name, &call.bytes);
-        if have > u64::from(LARGEST_RECORD) {
-            return SetReply::Refused(SetReason::Size {
-                have,
-                limit: LARGEST_RECORD,
-            });
-        }
-        match key_of(call.guid, &call.name) {
-            Err(_) => SetReply::OutOfMemory,
-            Ok(key) => self.set_stored(call, key),
-        }
-    }
-
-    /// A set, by what is stored at its key.
-    fn set_stored(&mut self, call: &SetCall, key: Key) -> SetReply
-        requires key { key ≡ set_key call.now }
-        requires size { record_size call.now.name call.now.bytes ≤ largest_record }
-        ensures done { lacks_memory (Call.Set call.now) (Reply.Set result) ≡ false
-            → (result, self.new) ≡ set_stored self.old call.now (stored_at self.old key) }
-        ensures memory { lacks_memory (Call.Set call.now) (Reply.Set result) ≡ true → self.new ≡ self.old }
-    {
-        let found = self.variables.get(&key);
-        let rest = rest_of(self.totals, &key, found);
-        match decision_of(call, found) {
+        decisions_decide();
+        match self.decision(key, call) {
             Decision::Refuse(reason) => SetReply::Refused(reason),
-            Decision::Remove => self.set_removed(&key, rest),
             Decision::Same => SetReply::Same,
-            Decision::Write => self.set_put(call, key, rest),
+            Decision::Remove(_) => self.removed(key),
+            Decision::Write {
+                attributes,
+                stamp,
+                skip,
+                append,
+            } => {
+                let write = Write {
+                    attributes,
+                    stamp,
+                    skip,
+                    append,
+                };
+                self.written(key, call, &write)
+            }
         }
     }
 
-    /// Deletes what is stored at a key, after which the totals are `rest`.
-    fn set_removed(&mut self, key: &Key, rest: RoomTotals) -> SetReply
-        requires { IsTotalOf rest (remove_entry (is_at (key_cmp key.now)) self.old.variables) }
-        ensures { (result, self.new) ≡ set_change self.old (remove_entry (is_at (key_cmp key.now)) self.old.variables) }
+    /// What a set comes to.
+    fn decision(&self, key: &Key, call: &SetCall) -> Decision
+        requires { key.now ≡ set_key call.now }
+        ensures { result ≡ decision self.now call.now }
     {
-        if self.limit <= self.made {
-            return SetReply::Refused(SetReason::HistoryFull { made: self.made });
-        }
+        let found = self.variables.get(key);
+        let view = KeyView {
+            key,
+            found,
+            rest: totals_without(self.totals, key, found),
+            runtime: self.runtime,
+            made: self.made,
+            limit: self.limit,
+        };
+        decide(&view, call)
+    }
+
+    /// Deletes what is stored at a key.
+    fn removed(&mut self, key: &Key) -> SetReply
+        requires { self.old.made < self.old.limit }
+        ensures reply { result ≡ Changed }
+        ensures state { self.new ≡ changed self.old (remove_entry (is_at (key_cmp key.now)) self.old.variables) }
+    {
+        let rest = totals_without(self.totals, key, self.variables.get(key));
         self.variables.remove(key);
         self.totals = rest;
         self.made += 1;
         SetReply::Ok
     }
 
-    /// Puts the variable of a set if its store has room, where `rest` has the totals of the other variables.
-    #[tactic(auto, unfolding(var_types::specs::Set::set_put, var_types::specs::Room::room_needed))]
-    fn set_put(&mut self, call: &SetCall, key: Key, rest: RoomTotals) -> SetReply
-        requires key { key ≡ set_key call.now }
-        requires size { record_size call.now.name call.now.bytes ≤ largest_record }
-        requires rest { IsTotalOf rest (remove_entry (is_at (key_cmp key)) self.old.variables) }
-        ensures done { lacks_memory (Call.Set call.now) (Reply.Set result) ≡ false → (result, self.new) ≡ set_put self.old call.now }
+    /// Puts the variable of a write at a key.
+    fn written(&mut self, key: &Key, call: &SetCall, write: &Write) -> SetReply
+        requires more { self.old.made < self.old.limit }
+        requires within { write.now.skip ≤ length call.now.bytes }
+        requires room { HasRoom self.old.variables key.now (written call.now (stored_at self.old key.now) write.now) }
+        ensures reply { lacks_memory (Call.Set call.now) (Reply.Set result) ≡ false → result ≡ Changed }
+        ensures state { lacks_memory (Call.Set call.now) (Reply.Set result) ≡ false
+            → self.new
+            ≡ changed self.old
+            (insert_entry key_cmp self.old.variables key.now (written call.now (stored_at self.old key.now) write.now)) }
         ensures memory { lacks_memory (Call.Set call.now) (Reply.Set result) ≡ true → self.new ≡ self.old }
     {
-        let store = Store::of(call.attributes);
-        let need = rest.of(store) + room_made(call);
-        let have = store.room_limit();
-        if need > have {
-            return SetReply::Refused(SetReason::Room { need, have });
-        }
-        self.set_written(call, key, rest.with(store, need))
-    }
-
-    /// Puts the variable of a set, after which the totals are `totals`.
-    fn set_written(&mut self, call: &SetCall, key: Key, totals: RoomTotals) -> SetReply
-        requires { IsStrictlySortedBy key_cmp (keys_of self.old.variables)
-            → IsTotalOf totals (insert_entry key_cmp self.old.variables key (made_by call.now)) }
-        ensures done { lacks_memory (Call.Set call.now) (Reply.Set result) ≡ false
-            → (result, self.new) ≡ set_change self.old (insert_entry key_cmp self.old.variables key (made_by call.now)) }
-        ensures memory { lacks_memory (Call.Set call.now) (Reply.Set result) ≡ true → self.new ≡ self.old }
-    {
-        if self.limit <= self.made {
-            return SetReply::Refused(SetReason::HistoryFull { made: self.made });
-        }
-        let Ok(variable) = made_by(self.alloc, call) else {
+        let rest = totals_without(self.totals, key, self.variables.get(key));
+        if put(self.alloc, &mut self.variables, key, call, write).is_err() {
             return SetReply::OutOfMemory;
-        };
-        match self.variables.insert(key, variable) {
-            Err(_) => SetReply::OutOfMemory,
-            Ok(_) => {
-                self.totals = totals;
-                self.made += 1;
-                SetReply::Ok
-            }
         }
-    }
-}
-
-/// The answer from what is stored at a call's key.
-fn get_stored(alloc: Global, variables: &BTreeMap<Key, Variable>, call: &GetCall) -> GetReply
-    requires { (key : Key) → IfSome (get key_cmp variables.now key) (λ variable. length variable.bytes < 2 ^ 32) }
-    ensures { lacks_memory (Call.Get call.now) (Reply.Get result) ≡ false
-        → result ≡ get_found (get key_cmp variables.now (key_of call.now.guid call.now.name)) call.now.room }
-{
-    let Ok(key) = key_of(call.guid, &call.name) else {
-        return GetReply::OutOfMemory;
-    };
-    match variables.get(&key) {
-        None => GetReply::NotFound,
-        Some(variable) => get_found(alloc, call, variable),
-    }
-}
-
-/// The answer from a variable.
-fn get_found(alloc: Global, call: &GetCall, variable: &Variable) -> GetReply
-    requires { length variable.now.bytes < 2 ^ 32 }
-    ensures { lacks_memory (Call.Get call.now) (Reply.Get result) ≡ false → result ≡ get_found (Some variable.now) call.now.room }
-{
-    let bytes = variable.bytes.as_slice();
-    let needed = bytes.len() as u32;
-    if call.room < needed {
-        return GetReply::TooSmall {
-            attributes: variable.attributes,
-            needed,
-        };
-    }
-    match Bytes::copy(alloc, bytes) {
-        Err(_) => GetReply::OutOfMemory,
-        Ok(bytes) => GetReply::Ok {
-            attributes: variable.attributes,
-            bytes,
-        },
+        self.totals = totals_with(rest, key, self.variables.get(key));
+        self.made += 1;
+        SetReply::Ok
     }
 }
 
 /// The totals without what is stored at a key.
-fn rest_of(totals: RoomTotals, key: &Key, found: Option<&Variable>) -> RoomTotals
+fn totals_without(totals: RoomTotals, key: &Key, found: Option<&Variable>) -> RoomTotals
     requires { IfSome (option_copied found)
         (λ variable. room_of key.now variable ≤ total_of totals (store_of variable.attributes)) }
     ensures { result ≡ totals_without totals key.now (option_copied found.entry) }
@@ -307,6 +299,21 @@ fn rest_of(totals: RoomTotals, key: &Key, found: Option<&Variable>) -> RoomTotal
         Some(variable) => {
             let store = Store::of(variable.attributes);
             totals.with(store, totals.of(store) - room_of(key, variable) as u32)
+        }
+    }
+}
+
+/// The totals with what is stored at a key besides.
+fn totals_with(totals: RoomTotals, key: &Key, found: Option<&Variable>) -> RoomTotals
+    requires { IfSome (option_copied found)
+        (λ variable. total_of totals (store_of variable.attributes) + room_of key.now variable ≤ 65508) }
+    ensures { result ≡ totals_and totals key.now (option_copied found.entry) }
+{
+    match found {
+        None => totals,
+        Some(variable) => {
+            let store = Store::of(variable.attributes);
+            totals.with(store, totals.of(store) + room_of(key, variable) as u32)
         }
     }
 }

@@ -89,6 +89,14 @@ impl Units {
         Ok(Units { items })
     }
 
+    /// Takes other units in place of its own, in the same memory where that is enough; out of memory, it has none.
+    pub fn assign(&mut self, units: &Units) -> Result<(), AllocError>
+        ensures ok { OnOk result (self.new ≡ units.now) }
+    {
+        self.items.clear();
+        self.items.extend_from_slice(units.items.as_slice())
+    }
+
     pub fn as_slice(&self) -> &[u16]
         ensures items { result.now ≡ self.now }
         ensures limit { length self.now ≤ most_units }

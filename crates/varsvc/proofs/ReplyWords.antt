@@ -5,6 +5,8 @@ use Rattle.var_types.specs.declared.name.NameFault.{NameFault}
 use Rattle.var_types.specs.declared.name.NameFault.TheVariants as name
 use Rattle.var_types.specs.declared.set_reason.SetReason.{SetReason}
 use Rattle.var_types.specs.declared.set_reason.SetReason.TheVariants as reason
+use Rattle.var_types.specs.declared.reply.ExitReply.{ExitReply}
+use Rattle.var_types.specs.declared.reply.ExitReply.TheVariants as exit
 use Rattle.var_types.specs.declared.reply.GetReply.{GetReply}
 use Rattle.var_types.specs.declared.reply.GetReply.TheVariants as get
 use Rattle.var_types.specs.declared.reply.NextReply.{NextReply}
@@ -14,7 +16,7 @@ use Rattle.var_types.specs.declared.reply.Reply.TheVariants as reply
 use Rattle.var_types.specs.declared.reply.SetReply.{SetReply}
 use Rattle.var_types.specs.declared.reply.SetReply.TheVariants as set
 use Rattle.report_text.specs.declared.word.Word.TheVariants as word
-use Rattle.varsvc.specs.Replies.{get_reply_text, next_reply_text, name_fault_text, reason_text, set_reply_text, reply_text}
+use Rattle.varsvc.specs.Replies.{exit_reply_text, get_reply_text, next_reply_text, name_fault_text, reason_text, rule_status, rule_word, set_reply_text, reply_text}
 use Rattle.report_text.specs.Word.{word_text}
 use Rattle.varsvc.proofs.SameWords.{HaveWords}
 use Rattle.varsvc.proofs.WordBytes.{AreWords, IsWord-attributes_text, IsWord-bytes_text, IsWord-decimal, IsWord-guid_text, IsWord-name_text, IsWord-word_text}
@@ -45,10 +47,21 @@ fault_words (name.InnerNul at) = word_text word.Nul ∷ decimal at ∷ []
 -- the words of a refusal
 abbrev pub reason_words : SetReason → List (List ℕ)
 reason_words (reason.Name fault) = word_text word.InvalidParameter ∷ word_text word.Name ∷ fault_words fault
+reason_words (reason.Unsupported bits) = word_text word.Unsupported ∷ word_text word.Bits ∷ attributes_text bits ∷ []
+reason_words (reason.Unknown bits) = word_text word.InvalidParameter ∷ word_text word.Bits ∷ attributes_text bits ∷ []
+reason_words reason.RuntimeWithoutBoot = word_text word.InvalidParameter ∷ word_text word.RuntimeWithoutBoot ∷ []
+reason_words reason.Hidden = word_text word.InvalidParameter ∷ word_text word.Hidden ∷ []
+reason_words reason.VolatileAtRuntime = word_text word.WriteProtected ∷ word_text word.Volatile ∷ []
+reason_words reason.RuntimeNeedsNonVolatile = word_text word.InvalidParameter ∷ word_text word.RuntimeNeedsNonVolatile ∷ []
+reason_words (reason.Descriptor at) = word_text word.SecurityViolation ∷ word_text word.Descriptor ∷ decimal at ∷ []
 reason_words (reason.Size have limit) = word_text word.InvalidParameter ∷ word_text word.Size ∷ decimal have ∷ decimal limit ∷ []
+reason_words (reason.Denied place rule) = word_text (rule_status rule) ∷ word_text word.Denied ∷ decimal place ∷ word_text (rule_word rule) ∷ []
 reason_words reason.Missing = word_text word.NotFound ∷ word_text word.Missing ∷ []
-reason_words (reason.AttributesDiffer stored asked) =
-    word_text word.InvalidParameter ∷ word_text word.Attributes ∷ attributes_text stored ∷ attributes_text asked ∷ []
+reason_words reason.NeedsAuthentication = word_text word.WriteProtected ∷ word_text word.Authentication ∷ []
+reason_words (reason.AttributesDiffer stored asked) = word_text word.InvalidParameter ∷ word_text word.Attributes ∷ attributes_text stored ∷ attributes_text asked ∷ []
+reason_words reason.Verdict = word_text word.SecurityViolation ∷ word_text word.Verdict ∷ []
+reason_words (reason.Stamp stored new) = word_text word.SecurityViolation ∷ word_text word.Stamp ∷ bytes_text stored.bytes ∷ bytes_text new.bytes ∷ []
+reason_words (reason.AppendSize have limit) = word_text word.InvalidParameter ∷ word_text word.AppendSize ∷ decimal have ∷ decimal limit ∷ []
 reason_words (reason.Room need have) = word_text word.OutOfResources ∷ word_text word.Room ∷ decimal need ∷ decimal have ∷ []
 reason_words (reason.HistoryFull made) = word_text word.OutOfResources ∷ word_text word.History ∷ decimal made ∷ []
 
@@ -59,11 +72,18 @@ set_words set.Same = word_text word.Success ∷ word_text word.Same ∷ []
 set_words (set.Refused reason) = reason_words reason
 set_words set.OutOfMemory = word_text word.NoMemory ∷ []
 
+-- the words of the reply to the end of the boot phase
+abbrev pub exit_words : ExitReply → List (List ℕ)
+exit_words exit.Ok = word_text word.Success ∷ []
+exit_words exit.Same = word_text word.Success ∷ word_text word.Same ∷ []
+exit_words (exit.HistoryFull made) = word_text word.OutOfResources ∷ word_text word.History ∷ decimal made ∷ []
+
 -- the words of a reply
 abbrev pub reply_words : Reply → List (List ℕ)
 reply_words (reply.Get r) = get_words r
 reply_words (reply.Next r) = next_words r
 reply_words (reply.Set r) = set_words r
+reply_words (reply.Exit r) = exit_words r
 
 -- ---- a reply's text is its words, with a space between each two
 
@@ -95,9 +115,21 @@ name_fault_text-words (name.InnerNul at) = refl
 reason_text-words : (r : SetReason) → reason_text r ≡ spaced (reason_words r)
 unfolding reason_text
 reason_text-words (reason.Name fault) = name_fault_text-words fault
+reason_text-words (reason.Unsupported bits) = refl
+reason_text-words (reason.Unknown bits) = refl
+reason_text-words reason.RuntimeWithoutBoot = refl
+reason_text-words reason.Hidden = refl
+reason_text-words reason.VolatileAtRuntime = refl
+reason_text-words reason.RuntimeNeedsNonVolatile = refl
+reason_text-words (reason.Descriptor at) = refl
 reason_text-words (reason.Size have limit) = refl
+reason_text-words (reason.Denied place rule) = refl
 reason_text-words reason.Missing = refl
+reason_text-words reason.NeedsAuthentication = refl
 reason_text-words (reason.AttributesDiffer stored asked) = refl
+reason_text-words reason.Verdict = refl
+reason_text-words (reason.Stamp stored new) = refl
+reason_text-words (reason.AppendSize have limit) = refl
 reason_text-words (reason.Room need have) = refl
 reason_text-words (reason.HistoryFull made) = refl
 
@@ -109,12 +141,20 @@ set_reply_text-words set.Same = refl
 set_reply_text-words (set.Refused reason) = reason_text-words reason
 set_reply_text-words set.OutOfMemory = refl
 
+-- that of the end of the boot phase
+exit_reply_text-words : (r : ExitReply) → exit_reply_text r ≡ spaced (exit_words r)
+unfolding exit_reply_text
+exit_reply_text-words exit.Ok = refl
+exit_reply_text-words exit.Same = refl
+exit_reply_text-words (exit.HistoryFull made) = refl
+
 -- any reply's
 pub reply_text-words : (r : Reply) → reply_text r ≡ spaced (reply_words r)
 unfolding reply_text
 reply_text-words (reply.Get r) = get_reply_text-words r
 reply_text-words (reply.Next r) = next_reply_text-words r
 reply_text-words (reply.Set r) = set_reply_text-words r
+reply_text-words (reply.Exit r) = exit_reply_text-words r
 
 -- ---- they are words, at least one
 
@@ -142,13 +182,22 @@ AreWords-fault (name.InnerNul at) = (IsWord-word_text _, (IsWord-decimal at, tt)
 -- those of a refusal
 HaveWords-reason : (r : SetReason) → HaveWords (reason_words r)
 HaveWords-reason (reason.Name fault) = (IsWord-word_text _, (IsWord-word_text _, AreWords-fault fault))
-HaveWords-reason (reason.Size have limit) =
-    (IsWord-word_text _, (IsWord-word_text _, (IsWord-decimal have, (IsWord-decimal limit, tt))))
+HaveWords-reason (reason.Unsupported bits) = (IsWord-word_text _, (IsWord-word_text _, (IsWord-attributes_text bits, tt)))
+HaveWords-reason (reason.Unknown bits) = (IsWord-word_text _, (IsWord-word_text _, (IsWord-attributes_text bits, tt)))
+HaveWords-reason reason.RuntimeWithoutBoot = (IsWord-word_text _, (IsWord-word_text _, tt))
+HaveWords-reason reason.Hidden = (IsWord-word_text _, (IsWord-word_text _, tt))
+HaveWords-reason reason.VolatileAtRuntime = (IsWord-word_text _, (IsWord-word_text _, tt))
+HaveWords-reason reason.RuntimeNeedsNonVolatile = (IsWord-word_text _, (IsWord-word_text _, tt))
+HaveWords-reason (reason.Descriptor at) = (IsWord-word_text _, (IsWord-word_text _, (IsWord-decimal at, tt)))
+HaveWords-reason (reason.Size have limit) = (IsWord-word_text _, (IsWord-word_text _, (IsWord-decimal have, (IsWord-decimal limit, tt))))
+HaveWords-reason (reason.Denied place rule) = (IsWord-word_text _, (IsWord-word_text _, (IsWord-decimal place, (IsWord-word_text _, tt))))
 HaveWords-reason reason.Missing = (IsWord-word_text _, (IsWord-word_text _, tt))
-HaveWords-reason (reason.AttributesDiffer stored asked) =
-    (IsWord-word_text _, (IsWord-word_text _, (IsWord-attributes_text stored, (IsWord-attributes_text asked, tt))))
-HaveWords-reason (reason.Room need have) =
-    (IsWord-word_text _, (IsWord-word_text _, (IsWord-decimal need, (IsWord-decimal have, tt))))
+HaveWords-reason reason.NeedsAuthentication = (IsWord-word_text _, (IsWord-word_text _, tt))
+HaveWords-reason (reason.AttributesDiffer stored asked) = (IsWord-word_text _, (IsWord-word_text _, (IsWord-attributes_text stored, (IsWord-attributes_text asked, tt))))
+HaveWords-reason reason.Verdict = (IsWord-word_text _, (IsWord-word_text _, tt))
+HaveWords-reason (reason.Stamp stored new) = (IsWord-word_text _, (IsWord-word_text _, (IsWord-bytes_text _, (IsWord-bytes_text _, tt))))
+HaveWords-reason (reason.AppendSize have limit) = (IsWord-word_text _, (IsWord-word_text _, (IsWord-decimal have, (IsWord-decimal limit, tt))))
+HaveWords-reason (reason.Room need have) = (IsWord-word_text _, (IsWord-word_text _, (IsWord-decimal need, (IsWord-decimal have, tt))))
 HaveWords-reason (reason.HistoryFull made) = (IsWord-word_text _, (IsWord-word_text _, (IsWord-decimal made, tt)))
 
 -- a set's
@@ -158,8 +207,15 @@ HaveWords-set set.Same = (IsWord-word_text _, (IsWord-word_text _, tt))
 HaveWords-set (set.Refused reason) = HaveWords-reason reason
 HaveWords-set set.OutOfMemory = (IsWord-word_text _, tt)
 
+-- those of the reply to the end of the boot phase
+HaveWords-exit : (r : ExitReply) → HaveWords (exit_words r)
+HaveWords-exit exit.Ok = (IsWord-word_text _, tt)
+HaveWords-exit exit.Same = (IsWord-word_text _, (IsWord-word_text _, tt))
+HaveWords-exit (exit.HistoryFull made) = (IsWord-word_text _, (IsWord-word_text _, (IsWord-decimal made, tt)))
+
 -- any reply's
 pub HaveWords-reply : (r : Reply) → HaveWords (reply_words r)
 HaveWords-reply (reply.Get r) = HaveWords-get r
 HaveWords-reply (reply.Next r) = HaveWords-next r
 HaveWords-reply (reply.Set r) = HaveWords-set r
+HaveWords-reply (reply.Exit r) = HaveWords-exit r

@@ -53,6 +53,7 @@ reason_word reason.Guid = word.Guid
 reason_word reason.Name = word.Name
 reason_word reason.Number = word.Number
 reason_word reason.Hex = word.Hex
+reason_word reason.Verdict = word.Verdict
 
 -- the line for a refused script (this project's own)
 unfoldable pub script_line : ScriptFault → List ℕ

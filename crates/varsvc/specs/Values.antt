@@ -5,6 +5,8 @@ use Rattle.var_types.specs.declared.name.NameFault.{NameFault}
 use Rattle.var_types.specs.declared.name.NameFault.TheVariants as fault
 use Rattle.var_types.specs.declared.set_reason.SetReason.{SetReason}
 use Rattle.var_types.specs.declared.set_reason.SetReason.TheVariants as reason
+use Rattle.var_types.specs.declared.reply.ExitReply.{ExitReply}
+use Rattle.var_types.specs.declared.reply.ExitReply.TheVariants as exit
 use Rattle.var_types.specs.declared.reply.GetReply.{GetReply}
 use Rattle.var_types.specs.declared.reply.GetReply.TheVariants as get
 use Rattle.var_types.specs.declared.reply.NextReply.{NextReply}
@@ -37,9 +39,21 @@ HasValuesOfFault (fault.InnerNul at) = at < 2 ^ 32
 
 abbrev pub HasValuesOfReason : SetReason → Type 0
 HasValuesOfReason (reason.Name fault) = HasValuesOfFault fault
+HasValuesOfReason (reason.Unsupported bits) = bits < 2 ^ 32
+HasValuesOfReason (reason.Unknown bits) = bits < 2 ^ 32
+HasValuesOfReason reason.RuntimeWithoutBoot = Unit {0}
+HasValuesOfReason reason.Hidden = Unit {0}
+HasValuesOfReason reason.VolatileAtRuntime = Unit {0}
+HasValuesOfReason reason.RuntimeNeedsNonVolatile = Unit {0}
+HasValuesOfReason (reason.Descriptor at) = at < 2 ^ 32
 HasValuesOfReason (reason.Size have limit) = (have < 2 ^ 64) × (limit < 2 ^ 32)
+HasValuesOfReason (reason.Denied place rule) = place < 2 ^ 32
 HasValuesOfReason reason.Missing = Unit {0}
+HasValuesOfReason reason.NeedsAuthentication = Unit {0}
 HasValuesOfReason (reason.AttributesDiffer stored asked) = (stored < 2 ^ 32) × (asked < 2 ^ 32)
+HasValuesOfReason reason.Verdict = Unit {0}
+HasValuesOfReason (reason.Stamp stored new) = AreBytes stored.bytes × AreBytes new.bytes
+HasValuesOfReason (reason.AppendSize have limit) = (have < 2 ^ 64) × (limit < 2 ^ 32)
 HasValuesOfReason (reason.Room need have) = (need < 2 ^ 32) × (have < 2 ^ 32)
 HasValuesOfReason (reason.HistoryFull made) = made < 2 ^ 64
 
@@ -49,10 +63,16 @@ HasValuesOfSet set.Same = Unit {0}
 HasValuesOfSet (set.Refused reason) = HasValuesOfReason reason
 HasValuesOfSet set.OutOfMemory = Unit {0}
 
+abbrev pub HasValuesOfExit : ExitReply → Type 0
+HasValuesOfExit exit.Ok = Unit {0}
+HasValuesOfExit exit.Same = Unit {0}
+HasValuesOfExit (exit.HistoryFull made) = made < 2 ^ 64
+
 abbrev pub HasValues : Reply → Type 0
 HasValues (reply.Get r) = HasValuesOfGet r
 HasValues (reply.Next r) = HasValuesOfNext r
 HasValues (reply.Set r) = HasValuesOfSet r
+HasValues (reply.Exit r) = HasValuesOfExit r
 
 -- the parts of an answered call's reply, and its place
 abbrev pub AnswerHasValues : Answered → Type 0

@@ -95,6 +95,7 @@ fn reason_word(reason: LineReason) -> Word
         LineReason::Name => Word::Name,
         LineReason::Number => Word::Number,
         LineReason::Hex => Word::Hex,
+        LineReason::Verdict => Word::Verdict,
     }
 }
 

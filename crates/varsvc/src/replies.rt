@@ -1,13 +1,18 @@
-ghost use Rattle.std.specs.Prelude.{[], ◌∷◌};
+ghost use Rattle.std.specs.Prelude.{◌≡◌, [], ◌∷◌, decimal};
+ghost use Rattle.report_text.specs.Word.{word_text};
+ghost use Rattle.report_text.specs.declared.word.Word.TheVariants as word;
 ghost use Rattle.var_types.specs.Guid.{IsGuid, guid_text};
-ghost use Rattle.var_types.specs.Texts.{name_text, spaced};
-ghost use Rattle.var_types.specs.Values.{AreUnits};
-ghost use Rattle.varsvc.specs.Replies.{get_reply_text, next_reply_text, name_fault_text, reason_text, set_reply_text, reply_text};
-ghost use Rattle.varsvc.specs.Values.{HasValues, HasValuesOfFault, HasValuesOfGet, HasValuesOfNext, HasValuesOfReason, HasValuesOfSet};
+ghost use Rattle.var_types.specs.Texts.{attributes_text, name_text, spaced};
+ghost use Rattle.var_types.specs.declared.set_reason.SetReason.TheVariants as reason;
+ghost use Rattle.var_types.specs.Values.{AreBytes, AreUnits};
+ghost use Rattle.varsvc.specs.Replies.{exit_reply_text, get_reply_text, next_reply_text, name_fault_text, reason_text, rule_status, rule_word, set_reply_text, reply_text};
+ghost use Rattle.varsvc.specs.Values.{HasValues, HasValuesOfExit, HasValuesOfFault, HasValuesOfGet, HasValuesOfNext, HasValuesOfReason, HasValuesOfSet};
 
 use report_text::{Part, Word, write_parts};
 use var_types::text::write_name;
-use var_types::{GetReply, Key, NameFault, NextReply, Put, Reply, SetReason, SetReply};
+use var_types::{
+    ExitReply, GetReply, Key, NameFault, NextReply, Put, Reply, Rule, SetReason, SetReply, Stamp,
+};
 
 #[tactic(auto, unfolding(crate::specs::Replies::get_reply_text))]
 fn write_get_reply<P: Put>(reply: &GetReply, out: &mut P)
@@ -87,43 +92,166 @@ fn write_name_fault<P: Put>(fault: NameFault, out: &mut P)
     }
 }
 
+fn rule_status(rule: Rule) -> Word
+    ensures { result ≡ rule_status rule }
+{
+    match rule {
+        Rule::MinSize | Rule::MaxSize | Rule::Must | Rule::Cant => Word::InvalidParameter,
+        Rule::LockNow | Rule::LockOnCreate | Rule::LockOnState => Word::WriteProtected,
+    }
+}
+
+fn rule_word(rule: Rule) -> Word
+    ensures { result ≡ rule_word rule }
+{
+    match rule {
+        Rule::MinSize => Word::MinSize,
+        Rule::MaxSize => Word::MaxSize,
+        Rule::Must => Word::Must,
+        Rule::Cant => Word::Cant,
+        Rule::LockNow => Word::LockNow,
+        Rule::LockOnCreate => Word::LockOnCreate,
+        Rule::LockOnState => Word::LockOnState,
+    }
+}
+
+/// Puts a status and a reason without numbers.
+fn write_two<P: Put>(status: Word, reason: Word, out: &mut P)
+    ensures { P.Puts out.old out.new (spaced (word_text status ∷ word_text reason ∷ [])) }
+{
+    write_parts(&[Part::Word(status), Part::Word(reason)], out)
+}
+
+/// Puts a status, a reason, and a number.
+fn write_number_reason<P: Put>(status: Word, reason: Word, n: u64, out: &mut P)
+    ensures { P.Puts out.old out.new (spaced (word_text status ∷ word_text reason ∷ decimal n ∷ [])) }
+{
+    write_parts(
+        &[Part::Word(status), Part::Word(reason), Part::Number(n)],
+        out,
+    )
+}
+
+/// Puts a status, a reason, and two numbers.
+fn write_numbers_reason<P: Put>(status: Word, reason: Word, m: u64, n: u64, out: &mut P)
+    ensures { P.Puts out.old out.new (spaced (word_text status ∷ word_text reason ∷ decimal m ∷ decimal n ∷ [])) }
+{
+    write_parts(
+        &[
+            Part::Word(status),
+            Part::Word(reason),
+            Part::Number(m),
+            Part::Number(n),
+        ],
+        out,
+    )
+}
+
+/// Puts a status and bits.
+fn write_bits<P: Put>(status: Word, bits: u32, out: &mut P)
+    ensures { P.Puts out.old out.new (spaced (word_text status ∷ word_text word.Bits ∷ attributes_text bits ∷ [])) }
+{
+    write_parts(
+        &[
+            Part::Word(status),
+            Part::Word(Word::Bits),
+            Part::Attributes(bits),
+        ],
+        out,
+    )
+}
+
+#[tactic(auto, unfolding(crate::specs::Replies::reason_text))]
+fn write_attributes_reason<P: Put>(stored: u32, asked: u32, out: &mut P)
+    ensures { P.Puts out.old out.new (reason_text (reason.AttributesDiffer stored asked)) }
+{
+    write_parts(
+        &[
+            Part::Word(Word::InvalidParameter),
+            Part::Word(Word::Attributes),
+            Part::Attributes(stored),
+            Part::Attributes(asked),
+        ],
+        out,
+    )
+}
+
+#[tactic(auto, unfolding(crate::specs::Replies::reason_text))]
+fn write_denied<P: Put>(place: u32, rule: Rule, out: &mut P)
+    ensures { P.Puts out.old out.new (reason_text (reason.Denied place rule)) }
+{
+    write_parts(
+        &[
+            Part::Word(rule_status(rule)),
+            Part::Word(Word::Denied),
+            Part::Number(u64::from(place)),
+            Part::Word(rule_word(rule)),
+        ],
+        out,
+    )
+}
+
+/// Puts the refusal of an old stamp: both with all their digits, also where one is none.
+#[tactic(auto, unfolding(crate::specs::Replies::reason_text))]
+fn write_stamps<P: Put>(stored: &Stamp, new: &Stamp, out: &mut P)
+    ensures text { P.Puts out.old out.new (reason_text (reason.Stamp stored.now new.now)) }
+    ensures values { AreBytes stored.now.bytes × AreBytes new.now.bytes }
+{
+    write_parts(
+        &[
+            Part::Word(Word::SecurityViolation),
+            Part::Word(Word::Stamp),
+            Part::Bytes(&stored.bytes),
+            Part::Bytes(&new.bytes),
+        ],
+        out,
+    )
+}
+
 #[tactic(auto, unfolding(crate::specs::Replies::reason_text))]
 fn write_reason<P: Put>(reason: SetReason, out: &mut P)
     ensures text { P.Puts out.old out.new (reason_text reason) }
     ensures values { HasValuesOfReason reason }
 {
-    let invalid = Part::Word(Word::InvalidParameter);
-    let lacking = Part::Word(Word::OutOfResources);
+    let invalid = Word::InvalidParameter;
+    let locked = Word::WriteProtected;
+    let insecure = Word::SecurityViolation;
     match reason {
         SetReason::Name(fault) => write_name_fault(fault, out),
+        SetReason::Unsupported { bits } => write_bits(Word::Unsupported, bits, out),
+        SetReason::Unknown { bits } => write_bits(invalid, bits, out),
+        SetReason::RuntimeWithoutBoot => write_two(invalid, Word::RuntimeWithoutBoot, out),
+        SetReason::Hidden => write_two(invalid, Word::Hidden, out),
+        SetReason::VolatileAtRuntime => write_two(locked, Word::Volatile, out),
+        SetReason::RuntimeNeedsNonVolatile => {
+            write_two(invalid, Word::RuntimeNeedsNonVolatile, out)
+        }
+        SetReason::Descriptor { at } => {
+            write_number_reason(insecure, Word::Descriptor, u64::from(at), out)
+        }
         SetReason::Size { have, limit } => {
-            let limit = Part::Number(u64::from(limit));
-            write_parts(
-                &[invalid, Part::Word(Word::Size), Part::Number(have), limit],
-                out,
-            )
+            write_numbers_reason(invalid, Word::Size, have, u64::from(limit), out)
         }
-        SetReason::Missing => {
-            write_parts(
-                &[Part::Word(Word::NotFound), Part::Word(Word::Missing)],
-                out,
-            )
-        }
+        SetReason::Denied { place, rule } => write_denied(place, rule, out),
+        SetReason::Missing => write_two(Word::NotFound, Word::Missing, out),
+        SetReason::NeedsAuthentication => write_two(locked, Word::Authentication, out),
         SetReason::AttributesDiffer { stored, asked } => {
-            let stored = Part::Attributes(stored);
-            let asked = Part::Attributes(asked);
-            write_parts(&[invalid, Part::Word(Word::Attributes), stored, asked], out)
+            write_attributes_reason(stored, asked, out)
         }
-        SetReason::Room { need, have } => {
-            let need = Part::Number(u64::from(need));
-            let have = Part::Number(u64::from(have));
-            write_parts(&[lacking, Part::Word(Word::Room), need, have], out)
+        SetReason::Verdict => write_two(insecure, Word::Verdict, out),
+        SetReason::Stamp { stored, new } => write_stamps(&stored, &new, out),
+        SetReason::AppendSize { have, limit } => {
+            write_numbers_reason(invalid, Word::AppendSize, have, u64::from(limit), out)
         }
+        SetReason::Room { need, have } => write_numbers_reason(
+            Word::OutOfResources,
+            Word::Room,
+            u64::from(need),
+            u64::from(have),
+            out,
+        ),
         SetReason::HistoryFull { made } => {
-            write_parts(
-                &[lacking, Part::Word(Word::History), Part::Number(made)],
-                out,
-            )
+            write_number_reason(Word::OutOfResources, Word::History, made, out)
         }
     }
 }
@@ -141,6 +269,20 @@ fn write_set_reply<P: Put>(reply: &SetReply, out: &mut P)
     }
 }
 
+#[tactic(auto, unfolding(crate::specs::Replies::exit_reply_text))]
+fn write_exit_reply<P: Put>(reply: ExitReply, out: &mut P)
+    ensures text { P.Puts out.old out.new (exit_reply_text reply) }
+    ensures values { HasValuesOfExit reply }
+{
+    match reply {
+        ExitReply::Ok => write_parts(&[Part::Word(Word::Success)], out),
+        ExitReply::Same => write_two(Word::Success, Word::Same, out),
+        ExitReply::HistoryFull { made } => {
+            write_number_reason(Word::OutOfResources, Word::History, made, out)
+        }
+    }
+}
+
 /// Puts the text of a reply.
 #[tactic(auto, unfolding(crate::specs::Replies::reply_text))]
 pub fn write_reply<P: Put>(reply: &Reply, out: &mut P)
@@ -151,5 +293,6 @@ pub fn write_reply<P: Put>(reply: &Reply, out: &mut P)
         Reply::Get(reply) => write_get_reply(reply, out),
         Reply::Next(reply) => write_next_reply(reply, out),
         Reply::Set(reply) => write_set_reply(reply, out),
+        Reply::Exit(reply) => write_exit_reply(*reply, out),
     }
 }

@@ -1,4 +1,4 @@
-ghost use Rattle.std.specs.Prelude.{◌≡◌, ◌==◌, ℕ, Bool, List, find};
+ghost use Rattle.std.specs.Prelude.{◌≡◌, ◌==◌, ℕ, Bool, List, [], ◌∷◌, find};
 ghost use Rattle.std.specs.BTreeMap.{is_at};
 ghost use Rattle.std.specs.Map.{remove_entry};
 ghost use Rattle.std.specs.Option.{option_map};
@@ -21,18 +21,23 @@ use var_types::{
 /// The GUID of the tests' variables.
 const VENDOR: Guid = Guid { bytes: [7; 16] };
 
-/// A variable of the view for tests.
+/// How many changes the tests' histories hold.
+const LIMIT: u64 = 9;
+
+const NO_STAMP: Stamp = Stamp { bytes: [0; 16] };
+
+/// A variable of the view for tests: the only unit of its name, and what is stored.
 #[derive(Clone, Copy)]
 struct Held<'a> {
-    name: &'a [u16],
+    unit: u16,
     stored: Stored<'a>,
 }
 
-/// A view over few variables of one vendor. Its other variables take the same room in either store.
+/// A view over few variables of one vendor. The variables of either store take the same room without that at a key.
 #[derive(Clone, Copy)]
-struct Shelf<'a> {
+struct Shelf<'a, 'b> {
     guid: Guid,
-    held: &'a [Held<'a>],
+    held: &'b [Held<'a>],
     used: u16,
     denial: Option<Denied>,
     runtime: bool,
@@ -41,16 +46,17 @@ struct Shelf<'a> {
 }
 
 fn held_at<'a>(held: &[Held<'a>], name: &[u16]) -> Option<Stored<'a>>
-    ensures { result ≡ option_map (λ held. held.stored) (find (λ held. pointwise ◌==◌ held.name.now name.now) held.now) }
+    ensures { result ≡ option_map (λ held. held.stored) (find (λ held. pointwise ◌==◌ name.now (held.unit ∷ [])) held.now) }
 {
     held.iter()
-        .find(|held| held.name == name)
+        .find(|held| name == [held.unit].as_slice())
         .map(|held| held.stored)
 }
 
-impl View for Shelf<'_> {
+impl View for Shelf<'_, '_> {
     ghost is_of = { λ shelf state.
-        ((name : List ℕ) → seen (option_map (λ held. held.stored) (find (λ held. pointwise ◌==◌ held.name.now name) shelf.held.now))
+        ((name : List ℕ)
+        → seen (option_map (λ held. held.stored) (find (λ held. pointwise ◌==◌ name (held.unit ∷ [])) shelf.held.now))
         ≡ stored_at state (key_of shelf.guid name))
         × ((non_volatile : Bool) (name : List ℕ) → shelf.used
         ≡ room_used (store_if non_volatile) (remove_entry (is_at (key_cmp (key_of shelf.guid name))) state.variables))
@@ -84,59 +90,59 @@ impl View for Shelf<'_> {
     }
 }
 
-/// The vendor's variables at boot, with room and history for more.
-fn at_boot<'a>(held: &'a [Held<'a>]) -> Shelf<'a> {
-    Shelf {
-        guid: VENDOR,
-        held,
-        used: 0,
-        denial: None,
-        runtime: false,
-        made: 0,
-        limit: 9,
+/// Equal bytes, or none, behind the least descriptor of 2024-01-02 03:04 and a second, where that is given.
+#[derive(Clone, Copy)]
+struct Data {
+    second: Option<u8>,
+    size: usize,
+    value: u8,
+}
+
+/// A name of units `A`, with a NUL where that is given.
+#[derive(Clone, Copy)]
+struct Name {
+    units: usize,
+    nul: Option<usize>,
+}
+
+/// A variable `A` that is stored.
+#[derive(Clone, Copy)]
+struct Kept {
+    attributes: u32,
+    stamp: Stamp,
+    data: Data,
+}
+
+/// A set over what is stored.
+#[derive(Clone, Copy)]
+struct Case {
+    kept: Option<Kept>,
+    used: u16,
+    locked: bool,
+    runtime: bool,
+    made: u64,
+    name: Name,
+    attributes: u32,
+    data: Data,
+    verdict: Verdict,
+}
+
+fn bytes(size: usize, value: u8) -> Data {
+    Data {
+        second: None,
+        size,
+        value,
     }
 }
 
-/// The same at runtime.
-fn at_runtime<'a>(held: &'a [Held<'a>]) -> Shelf<'a> {
-    Shelf {
-        runtime: true,
-        ..at_boot(held)
+/// Bytes behind a descriptor of that second.
+fn timed(second: u8, size: usize, value: u8) -> Data {
+    Data {
+        second: Some(second),
+        size,
+        value,
     }
 }
-
-/// The same where the history holds no more.
-fn full<'a>(held: &'a [Held<'a>]) -> Shelf<'a> {
-    Shelf {
-        made: 9,
-        ..at_boot(held)
-    }
-}
-
-/// The same where a policy locks.
-fn locked<'a>(held: &'a [Held<'a>]) -> Shelf<'a> {
-    Shelf {
-        denial: Some(Denied {
-            place: 3,
-            rule: Rule::LockNow,
-        }),
-        ..at_boot(held)
-    }
-}
-
-/// A variable `A`.
-fn variable(attributes: u32, stamp: Stamp, payload: &[u8]) -> Held<'_> {
-    Held {
-        name: &[65],
-        stored: Stored {
-            attributes,
-            stamp,
-            payload,
-        },
-    }
-}
-
-const NO_STAMP: Stamp = Stamp { bytes: [0; 16] };
 
 /// The stamp of 2024-01-02 03:04 and a second.
 fn stamp(second: u8) -> Stamp {
@@ -145,56 +151,86 @@ fn stamp(second: u8) -> Stamp {
     }
 }
 
-/// The least descriptor with that stamp.
-fn descriptor(second: u8) -> [u8; 40] {
-    let mut bytes = [
-        0xe8, 0x07, 0x01, 0x02, 0x03, 0x04, 0x05, 0x00, 0x00, 0x00, 0x00, 0x00, 0x00, 0x00, 0x00,
-        0x00, 0x18, 0x00, 0x00, 0x00, 0x00, 0x02, 0xf1, 0x0e, 0x9d, 0xd2, 0xaf, 0x4a, 0xdf, 0x68,
-        0xee, 0x49, 0x8a, 0xa9, 0x34, 0x7d, 0x37, 0x56, 0x65, 0xa7,
-    ];
-    bytes[6] = second;
-    bytes
-}
-
-/// The least descriptor with that stamp, and a byte behind it.
-fn timed(second: u8, value: u8) -> [u8; 41] {
-    let mut bytes = [value; 41];
-    bytes[..40].copy_from_slice(&descriptor(second));
-    bytes
-}
-
-/// A call of SetVariable by its parts.
-#[derive(Clone, Copy)]
-struct Set<'a> {
-    name: &'a [u16],
-    attributes: u32,
-    bytes: &'a [u8],
-    verdict: Verdict,
-}
-
-/// A set of `A` whose signature is good.
-fn call(attributes: u32, bytes: &[u8]) -> Set<'_> {
-    Set {
-        name: &[65],
+/// One byte 1 that is stored without a stamp.
+fn plain(attributes: u32) -> Kept {
+    Kept {
         attributes,
-        bytes,
+        stamp: NO_STAMP,
+        data: bytes(1, 1),
+    }
+}
+
+/// One byte 0xaa that is stored with the stamp of second 5.
+fn timed_at_5(attributes: u32) -> Kept {
+    Kept {
+        attributes,
+        stamp: stamp(5),
+        data: bytes(1, 0xaa),
+    }
+}
+
+/// A set of `A` at boot whose signature is good, where nothing is stored.
+fn set(attributes: u32, data: Data) -> Case {
+    Case {
+        kept: None,
+        used: 0,
+        locked: false,
+        runtime: false,
+        made: 0,
+        name: Name {
+            units: 1,
+            nul: None,
+        },
+        attributes,
+        data,
         verdict: Verdict::Good,
     }
 }
 
-/// The same whose signature is bad.
-fn forged(attributes: u32, bytes: &[u8]) -> Set<'_> {
-    Set {
-        verdict: Verdict::Bad,
-        ..call(attributes, bytes)
+fn over(kept: Kept, case: Case) -> Case {
+    Case {
+        kept: Some(kept),
+        ..case
     }
 }
 
-/// A set of one byte under another name.
-fn named(name: &[u16]) -> Set<'_> {
-    Set {
-        name,
-        ..call(7, &[1])
+fn at_runtime(case: Case) -> Case {
+    Case {
+        runtime: true,
+        ..case
+    }
+}
+
+fn locked(case: Case) -> Case {
+    Case {
+        locked: true,
+        ..case
+    }
+}
+
+/// The case where the history holds no more.
+fn full(case: Case) -> Case {
+    Case {
+        made: LIMIT,
+        ..case
+    }
+}
+
+fn forged(case: Case) -> Case {
+    Case {
+        verdict: Verdict::Bad,
+        ..case
+    }
+}
+
+fn beside(used: u16, case: Case) -> Case {
+    Case { used, ..case }
+}
+
+fn named(units: usize, nul: Option<usize>) -> Case {
+    Case {
+        name: Name { units, nul },
+        ..set(7, bytes(1, 1))
     }
 }
 
@@ -211,222 +247,337 @@ fn write(attributes: u32, stamp: Stamp, skip: u64, append: bool) -> Decision {
     }
 }
 
-/// What a set comes to.
-fn decided(alloc: Global, shelf: &Shelf, set: &Set) -> Result<Decision, Fail> {
-    let call = SetCall {
-        guid: shelf.guid,
-        name: Units::new(alloc, set.name)?,
-        attributes: set.attributes,
-        bytes: Bytes::copy(alloc, set.bytes)?,
-        verdict: set.verdict,
-    };
-    Ok(decide(shelf, &call))
+/// The least descriptor with the stamp of a second.
+fn descriptor(second: u8) -> [u8; 40] {
+    [
+        0xe8, 0x07, 0x01, 0x02, 0x03, 0x04, second, 0x00, 0x00, 0x00, 0x00, 0x00, 0x00, 0x00, 0x00,
+        0x00, 0x18, 0x00, 0x00, 0x00, 0x00, 0x02, 0xf1, 0x0e, 0x9d, 0xd2, 0xaf, 0x4a, 0xdf, 0x68,
+        0xee, 0x49, 0x8a, 0xa9, 0x34, 0x7d, 0x37, 0x56, 0x65, 0xa7,
+    ]
 }
 
-/// A set over a view, and what it comes to.
-type Case<'a> = (Shelf<'a>, Set<'a>, Decision);
+fn bytes_of(alloc: Global, data: Data) -> Result<Bytes, Fail> {
+    let mut bytes = Bytes::new(alloc);
+    if let Some(second) = data.second {
+        bytes.append(&descriptor(second))?;
+    }
+    let rest = vec![in alloc; data.value; data.size]?;
+    bytes.append(&rest)?;
+    Ok(bytes)
+}
+
+fn name_of(alloc: Global, name: Name) -> Result<Units, Fail> {
+    let mut units = vec![in alloc; 65u16; name.units]?;
+    if let Some(at) = name.nul {
+        if let Some(unit) = units.get_mut(at) {
+            *unit = 0;
+        }
+    }
+    Ok(Units::new(alloc, &units)?)
+}
+
+/// What a call comes to over the variables of a view.
+fn decided_over(case: &Case, held: &[Held], call: &SetCall) -> Decision
+    requires { call.now.guid ≡ VENDOR }
+{
+    let denial = Denied {
+        place: 3,
+        rule: Rule::LockNow,
+    };
+    let shelf = Shelf {
+        guid: VENDOR,
+        held,
+        used: case.used,
+        denial: if case.locked { Some(denial) } else { None },
+        runtime: case.runtime,
+        made: case.made,
+        limit: LIMIT,
+    };
+    decide(&shelf, call)
+}
+
+/// What a call comes to where `B` is stored, and `A` is as the case says.
+fn decided_beside(case: &Case, bytes: &[u8], call: &SetCall) -> Decision
+    requires { call.now.guid ≡ VENDOR }
+{
+    let other = Held {
+        unit: 66,
+        stored: Stored {
+            attributes: 6,
+            stamp: NO_STAMP,
+            payload: bytes,
+        },
+    };
+    match case.kept {
+        None => decided_over(case, &[other], call),
+        Some(kept) => {
+            let stored = Stored {
+                attributes: kept.attributes,
+                stamp: kept.stamp,
+                payload: bytes,
+            };
+            decided_over(case, &[other, Held { unit: 65, stored }], call)
+        }
+    }
+}
+
+/// What a set comes to.
+fn decided(alloc: Global, case: &Case) -> Result<Decision, Fail> {
+    let call = SetCall {
+        guid: VENDOR,
+        name: name_of(alloc, case.name)?,
+        attributes: case.attributes,
+        bytes: bytes_of(alloc, case.data)?,
+        verdict: case.verdict,
+    };
+    let data = match case.kept {
+        None => bytes(0, 0),
+        Some(kept) => kept.data,
+    };
+    let stored = bytes_of(alloc, data)?;
+    Ok(decided_beside(case, stored.as_slice(), &call))
+}
 
 /// Each set comes to what is wanted of it.
-fn comes_to(rt: &impl Abort, alloc: Global, cases: &[Case]) -> Result<(), Fail> {
-    for (shelf, set, want) in cases {
-        let attributes = set.attributes;
-        let size = set.bytes.len();
-        let have = decided(alloc, shelf, set)?;
-        assert_eq!(rt; have, *want, "attributes {attributes}, {size} bytes");
+fn comes_to(rt: &impl Abort, alloc: Global, cases: &[(Case, Decision)]) -> Result<(), Fail> {
+    for (case, want) in cases {
+        let attributes = case.attributes;
+        let size = case.data.size;
+        assert_eq!(rt;
+            decided(alloc, case)?,
+            *want,
+            "attributes {attributes}, {size} bytes"
+        );
     }
     Ok(())
 }
 
+/// Each set is refused for the reason that is wanted.
+fn is_refused(rt: &impl Abort, alloc: Global, cases: &[(Case, SetReason)]) -> Result<(), Fail> {
+    for (case, reason) in cases {
+        let attributes = case.attributes;
+        assert_eq!(rt;
+            decided(alloc, case)?,
+            refused(*reason),
+            "attributes {attributes}"
+        );
+    }
+    Ok(())
+}
+
+const DENIED: SetReason = SetReason::Denied {
+    place: 3,
+    rule: Rule::LockNow,
+};
+
 #[test]
 fn each_reason_is_given(rt: HostRuntime) -> Result<(), Fail> {
-    let boot = [variable(3, NO_STAMP, &[1])];
-    let volatile = [variable(6, NO_STAMP, &[1])];
-    let time = [variable(0x27, stamp(5), &[0xaa])];
-    let old = SetReason::Stamp {
-        stored: stamp(5),
-        new: stamp(5),
-    };
-    let denied = SetReason::Denied {
-        place: 3,
-        rule: Rule::LockNow,
-    };
+    let one = bytes(1, 2);
     let differ = SetReason::AttributesDiffer {
         stored: 6,
         asked: 7,
     };
-    let mut longer = descriptor(5);
-    longer[16] = 25;
-    let forged_set = timed(6, 0xbb);
-    let equal_set = timed(5, 0xbb);
-    let cases = [
-        (at_boot(&[]), call(0x16, &[1]), SetReason::Unsupported { bits: 0x10 }),
-        (at_boot(&[]), call(0x107, &[1]), SetReason::Unknown { bits: 0x100 }),
-        (at_boot(&[]), call(5, &[1]), SetReason::RuntimeWithoutBoot),
-        (at_runtime(&boot), call(3, &[2]), SetReason::Hidden),
-        (at_runtime(&volatile), call(6, &[3]), SetReason::VolatileAtRuntime),
-        (at_runtime(&[]), call(6, &[1]), SetReason::RuntimeNeedsNonVolatile),
-        (at_runtime(&[]), call(3, &[1]), SetReason::RuntimeNeedsNonVolatile),
-        (at_boot(&[]), call(0x27, &longer), SetReason::Descriptor { at: 16 }),
-        (locked(&[]), call(7, &[1]), denied),
-        (at_boot(&[]), call(0x47, &[]), SetReason::Missing),
-        (at_boot(&time), call(7, &[0xcc]), SetReason::NeedsAuthentication),
-        (at_boot(&volatile), call(7, &[1]), differ),
-        (at_boot(&time), forged(0x27, &forged_set), SetReason::Verdict),
-        (at_boot(&time), call(0x27, &equal_set), old),
-        (full(&[]), call(7, &[1]), SetReason::HistoryFull { made: 9 }),
-    ];
-    for (shelf, set, reason) in cases {
-        let attributes = set.attributes;
-        let have = decided(rt.alloc(), &shelf, &set)?;
-        assert_eq!(rt; have, refused(reason), "attributes {attributes}");
-    }
-    Ok(())
+    let old = SetReason::Stamp {
+        stored: stamp(5),
+        new: stamp(5),
+    };
+    let later = timed(6, 1, 0xbb);
+    let equal = timed(5, 1, 0xbb);
+    is_refused(
+        &rt,
+        rt.alloc(),
+        &[
+            (set(0x16, one), SetReason::Unsupported { bits: 0x10 }),
+            (set(0x107, one), SetReason::Unknown { bits: 0x100 }),
+            (set(5, one), SetReason::RuntimeWithoutBoot),
+            (at_runtime(over(plain(3), set(3, one))), SetReason::Hidden),
+            (
+                at_runtime(over(plain(6), set(6, one))),
+                SetReason::VolatileAtRuntime,
+            ),
+            (at_runtime(set(6, one)), SetReason::RuntimeNeedsNonVolatile),
+            (at_runtime(set(3, one)), SetReason::RuntimeNeedsNonVolatile),
+            (set(0x27, one), SetReason::Descriptor { at: 0 }),
+            (locked(set(7, one)), DENIED),
+            (set(0x47, bytes(0, 0)), SetReason::Missing),
+            (
+                over(timed_at_5(0x27), set(7, one)),
+                SetReason::NeedsAuthentication,
+            ),
+            (over(plain(6), set(7, one)), differ),
+            (
+                forged(over(timed_at_5(0x27), set(0x27, later))),
+                SetReason::Verdict,
+            ),
+            (over(timed_at_5(0x27), set(0x27, equal)), old),
+            (full(set(7, one)), SetReason::HistoryFull { made: 9 }),
+        ],
+    )
 }
 
 #[test]
 fn of_two_reasons_the_first_is_given(rt: HostRuntime) -> Result<(), Fail> {
-    let plain = [variable(7, NO_STAMP, &[1])];
-    let boot = [variable(3, NO_STAMP, &[1])];
-    let time = [variable(0x27, stamp(5), &[0xaa])];
-    let time_at_boot = [variable(0x23, stamp(5), &[0xaa])];
-    let later = descriptor(6);
-    let equal = timed(5, 0xbb);
-    let denied = SetReason::Denied {
-        place: 3,
-        rule: Rule::LockNow,
-    };
+    let none = bytes(0, 0);
+    let one = bytes(1, 2);
+    let later = timed(6, 0, 0);
     let differ = SetReason::AttributesDiffer {
         stored: 0x27,
         asked: 0x23,
     };
-    let cases = [
-        (at_boot(&[]), call(0x118, &[1]), SetReason::Unsupported { bits: 0x18 }),
-        (at_boot(&[]), call(0x104, &[1]), SetReason::Unknown { bits: 0x100 }),
-        (at_runtime(&boot), call(4, &[1]), SetReason::RuntimeWithoutBoot),
-        (at_runtime(&[]), call(0x66, &[1]), SetReason::RuntimeNeedsNonVolatile),
-        (at_runtime(&[]), call(0x26, &[1]), SetReason::Descriptor { at: 0 }),
-        (at_runtime(&time_at_boot), call(0x27, &[1]), SetReason::Hidden),
-        (at_runtime(&[]), call(0, &[]), SetReason::Missing),
-        (at_boot(&time), call(0x20, &[1]), SetReason::Descriptor { at: 0 }),
-        (locked(&[]), call(0x27, &[1]), SetReason::Descriptor { at: 0 }),
-        (locked(&[]), call(0, &[]), denied),
-        (at_boot(&time), call(6, &[1]), SetReason::NeedsAuthentication),
-        (at_boot(&time), call(0, &[]), SetReason::NeedsAuthentication),
-        (at_boot(&time), forged(0x23, &later), differ),
-        (at_boot(&time), forged(0x20, &later), SetReason::Verdict),
-        (at_boot(&time), forged(0x27, &equal), SetReason::Verdict),
-        (full(&plain), call(0, &[]), SetReason::HistoryFull { made: 9 }),
-    ];
-    for (shelf, set, reason) in cases {
-        let attributes = set.attributes;
-        let have = decided(rt.alloc(), &shelf, &set)?;
-        assert_eq!(rt; have, refused(reason), "attributes {attributes}");
-    }
-    let same = decided(rt.alloc(), &full(&plain), &call(7, &[1]))?;
-    assert_eq!(rt; same, Decision::Same);
-    Ok(())
+    let time = timed_at_5(0x27);
+    is_refused(
+        &rt,
+        rt.alloc(),
+        &[
+            (set(0x118, one), SetReason::Unsupported { bits: 0x18 }),
+            (set(0x104, one), SetReason::Unknown { bits: 0x100 }),
+            (
+                at_runtime(over(plain(3), set(4, one))),
+                SetReason::RuntimeWithoutBoot,
+            ),
+            (
+                at_runtime(set(0x66, one)),
+                SetReason::RuntimeNeedsNonVolatile,
+            ),
+            (at_runtime(set(0x26, one)), SetReason::Descriptor { at: 0 }),
+            (
+                at_runtime(over(timed_at_5(0x23), set(0x27, one))),
+                SetReason::Hidden,
+            ),
+            (at_runtime(set(0, none)), SetReason::Missing),
+            (over(time, set(0x20, one)), SetReason::Descriptor { at: 0 }),
+            (locked(set(0x27, one)), SetReason::Descriptor { at: 0 }),
+            (locked(set(0, none)), DENIED),
+            (over(time, set(6, one)), SetReason::NeedsAuthentication),
+            (over(time, set(0, none)), SetReason::NeedsAuthentication),
+            (forged(over(time, set(0x23, later))), differ),
+            (forged(over(time, set(0x20, later))), SetReason::Verdict),
+            (
+                forged(over(time, set(0x27, timed(5, 1, 1)))),
+                SetReason::Verdict,
+            ),
+            (
+                full(over(plain(7), set(0, none))),
+                SetReason::HistoryFull { made: 9 },
+            ),
+        ],
+    )?;
+    let same = full(over(plain(7), set(7, bytes(1, 1))));
+    comes_to(&rt, rt.alloc(), &[(same, Decision::Same)])
 }
 
 #[test]
 fn deletions_are_told_from_writes(rt: HostRuntime) -> Result<(), Fail> {
-    let plain = [variable(7, NO_STAMP, &[1])];
-    let volatile = [variable(6, NO_STAMP, &[1])];
-    let time = [variable(0x27, stamp(5), &[0xaa])];
-    let (earlier, equal, later) = (descriptor(4), descriptor(5), descriptor(6));
+    let none = bytes(0, 0);
+    let one = bytes(1, 2);
     let old = refused(SetReason::Stamp {
         stored: stamp(5),
         new: stamp(4),
     });
     let removed = Decision::Remove(Store::NonVolatile);
+    let volatile = Decision::Remove(Store::Volatile);
+    let time = timed_at_5(0x27);
+    let appended = write(0x27, stamp(6), 40, true);
     comes_to(
         &rt,
         rt.alloc(),
         &[
-            (at_boot(&plain), call(0, &[2]), removed),
-            (at_boot(&plain), call(7, &[]), removed),
-            (at_boot(&plain), call(0x40, &[2]), removed),
-            (at_boot(&plain), call(0x40, &[]), removed),
-            (at_boot(&plain), call(0x47, &[]), Decision::Same),
-            (at_runtime(&plain), call(0, &[]), removed),
-            (at_boot(&volatile), call(6, &[]), Decision::Remove(Store::Volatile)),
-            (at_boot(&volatile), call(1, &[2]), Decision::Remove(Store::Volatile)),
-            (at_boot(&time), call(0x20, &later), removed),
-            (at_boot(&time), call(0x27, &later), removed),
-            (at_boot(&time), call(0x20, &earlier), old),
-            (at_boot(&time), call(0x60, &earlier), removed),
-            (at_boot(&time), call(0x67, &later), write(0x27, stamp(6), 40, true)),
-            (at_boot(&time), call(0x67, &equal), Decision::Same),
-            (at_boot(&time), call(0x67, &earlier), Decision::Same),
+            (over(plain(7), set(0, one)), removed),
+            (over(plain(7), set(7, none)), removed),
+            (over(plain(7), set(0x40, one)), removed),
+            (over(plain(7), set(0x40, none)), removed),
+            (over(plain(7), set(0x47, none)), Decision::Same),
+            (at_runtime(over(plain(7), set(0, none))), removed),
+            (over(plain(6), set(6, none)), volatile),
+            (over(plain(6), set(1, one)), volatile),
+            (over(time, set(0x20, timed(6, 0, 0))), removed),
+            (over(time, set(0x27, timed(6, 0, 0))), removed),
+            (over(time, set(0x20, timed(4, 0, 0))), old),
+            (over(time, set(0x60, timed(4, 0, 0))), removed),
+            (over(time, set(0x67, timed(6, 0, 0))), appended),
+            (over(time, set(0x67, timed(5, 0, 0))), Decision::Same),
+            (over(time, set(0x67, timed(4, 0, 0))), Decision::Same),
         ],
     )
 }
 
 #[test]
 fn writes_are_made_of_what_they_say(rt: HostRuntime) -> Result<(), Fail> {
-    let plain = [variable(7, NO_STAMP, &[1])];
-    let stamped = [variable(7, stamp(5), &[1])];
-    let time = [variable(0x27, stamp(5), &[0xaa])];
-    let others = [
-        Held {
-            name: &[66],
-            ..variable(6, NO_STAMP, &[1])
-        },
-        variable(7, NO_STAMP, &[1]),
-    ];
-    let (earlier, equal, later) = (timed(4, 0xbb), timed(5, 0xaa), timed(6, 0xaa));
+    let one = bytes(1, 2);
+    let written = write(7, NO_STAMP, 0, false);
+    let appended = write(7, NO_STAMP, 0, true);
+    let stamped = timed_at_5(7);
+    let time = timed_at_5(0x27);
     comes_to(
         &rt,
         rt.alloc(),
         &[
-            (at_boot(&[]), call(7, &[1]), write(7, NO_STAMP, 0, false)),
-            (at_boot(&[]), call(0x47, &[1]), write(7, NO_STAMP, 0, false)),
-            (at_boot(&plain), call(7, &[1]), Decision::Same),
-            (at_boot(&plain), call(7, &[2]), write(7, NO_STAMP, 0, false)),
-            (at_boot(&plain), call(7, &[1, 2]), write(7, NO_STAMP, 0, false)),
-            (at_boot(&plain), call(0x47, &[2]), write(7, NO_STAMP, 0, true)),
-            (at_boot(&others), call(7, &[1]), Decision::Same),
-            (at_boot(&others), call(7, &[2]), write(7, NO_STAMP, 0, false)),
-            (at_boot(&stamped), call(7, &[1]), write(7, NO_STAMP, 0, false)),
-            (at_boot(&stamped), call(0x47, &[]), write(7, NO_STAMP, 0, true)),
-            (at_runtime(&[]), call(7, &[1]), write(7, NO_STAMP, 0, false)),
-            (at_runtime(&plain), call(7, &[2]), write(7, NO_STAMP, 0, false)),
-            (at_boot(&[]), call(0x27, &equal), write(0x27, stamp(5), 40, false)),
-            (at_boot(&time), call(0x27, &later), write(0x27, stamp(6), 40, false)),
-            (at_boot(&time), call(0x67, &earlier), write(0x27, stamp(5), 40, true)),
-            (at_boot(&time), call(0x67, &later), write(0x27, stamp(6), 40, true)),
+            (set(7, one), written),
+            (set(0x47, one), written),
+            (over(plain(7), set(7, bytes(1, 1))), Decision::Same),
+            (over(plain(7), set(7, one)), written),
+            (over(plain(7), set(7, bytes(2, 1))), written),
+            (over(plain(7), set(0x47, one)), appended),
+            (over(stamped, set(7, bytes(1, 0xaa))), written),
+            (over(stamped, set(0x47, bytes(0, 0))), appended),
+            (at_runtime(set(7, one)), written),
+            (at_runtime(over(plain(7), set(7, one))), written),
+            (
+                set(0x27, timed(5, 1, 0xaa)),
+                write(0x27, stamp(5), 40, false),
+            ),
+            (
+                over(time, set(0x27, timed(6, 1, 0xaa))),
+                write(0x27, stamp(6), 40, false),
+            ),
+            (
+                over(time, set(0x67, timed(4, 1, 0xbb))),
+                write(0x27, stamp(5), 40, true),
+            ),
+            (
+                over(time, set(0x67, timed(6, 1, 0xbb))),
+                write(0x27, stamp(6), 40, true),
+            ),
         ],
     )
 }
 
 #[test]
 fn each_attribute_is_judged_alone(rt: HostRuntime) -> Result<(), Fail> {
-    let plain = [variable(7, NO_STAMP, &[1])];
-    let differ = SetReason::AttributesDiffer {
+    let one = bytes(1, 2);
+    let differ = refused(SetReason::AttributesDiffer {
         stored: 7,
         asked: 2,
-    };
+    });
     let removed = Decision::Remove(Store::NonVolatile);
-    let missing = refused(SetReason::Missing);
-    let without_boot = refused(SetReason::RuntimeWithoutBoot);
-    let unsupported = |bits| refused(SetReason::Unsupported { bits });
-    let broken = refused(SetReason::Descriptor { at: 0 });
-    for (bit, new, stored) in [
-        (0x01, missing, removed),
-        (0x02, write(2, NO_STAMP, 0, false), refused(differ)),
-        (0x04, without_boot, without_boot),
-        (0x08, unsupported(0x08), unsupported(0x08)),
-        (0x10, unsupported(0x10), unsupported(0x10)),
-        (0x20, broken, broken),
-        (0x40, missing, removed),
-        (0x80, unsupported(0x80), unsupported(0x80)),
-    ] {
-        assert_eq!(rt; decided(rt.alloc(), &at_boot(&[]), &call(bit, &[1]))?, new, "{bit}");
-        assert_eq!(rt; decided(rt.alloc(), &at_boot(&plain), &call(bit, &[1]))?, stored, "{bit}");
-    }
-    for place in 8..32 {
+    let written = write(2, NO_STAMP, 0, false);
+    is_refused(
+        &rt,
+        rt.alloc(),
+        &[
+            (set(0x01, one), SetReason::Missing),
+            (set(0x04, one), SetReason::RuntimeWithoutBoot),
+            (set(0x08, one), SetReason::Unsupported { bits: 0x08 }),
+            (set(0x10, one), SetReason::Unsupported { bits: 0x10 }),
+            (set(0x20, one), SetReason::Descriptor { at: 0 }),
+            (set(0x40, one), SetReason::Missing),
+            (set(0x80, one), SetReason::Unsupported { bits: 0x80 }),
+        ],
+    )?;
+    comes_to(
+        &rt,
+        rt.alloc(),
+        &[
+            (set(0x02, one), written),
+            (over(plain(7), set(0x01, one)), removed),
+            (over(plain(7), set(0x02, one)), differ),
+            (over(plain(7), set(0x40, one)), removed),
+        ],
+    )?;
+    for place in 8u32..32 {
         let bits = 1u32 << place;
-        let have = decided(rt.alloc(), &at_boot(&plain), &call(bits | 7, &[1]))?;
-        assert_eq!(rt; have, refused(SetReason::Unknown { bits }), "{bits}");
+        let unknown = SetReason::Unknown { bits };
+        is_refused(&rt, rt.alloc(), &[(set(bits | 7, one), unknown)])?;
     }
     Ok(())
 }
@@ -434,36 +585,34 @@ fn each_attribute_is_judged_alone(rt: HostRuntime) -> Result<(), Fail> {
 #[test]
 fn names_are_bounded(rt: HostRuntime) -> Result<(), Fail> {
     let name = |fault| refused(SetReason::Name(fault));
-    let done = write(7, NO_STAMP, 0, false);
-    let mut long = [65u16; 513];
-    let (longest, _) = long.split_at(512);
-    let last = [65u16, 66, 0];
+    let written = write(7, NO_STAMP, 0, false);
     comes_to(
         &rt,
         rt.alloc(),
         &[
-            (at_boot(&[]), named(&[]), name(NameFault::Empty)),
-            (at_boot(&[]), named(&[65]), done),
-            (at_boot(&[]), named(longest), done),
-            (at_boot(&[]), named(&[65, 0, 66]), name(NameFault::InnerNul { at: 1 })),
-            (at_boot(&[]), named(&[0]), name(NameFault::InnerNul { at: 0 })),
-            (at_boot(&[]), named(&last), name(NameFault::InnerNul { at: 2 })),
+            (named(0, None), name(NameFault::Empty)),
+            (named(1, None), written),
+            (named(512, None), written),
+            (named(513, None), name(NameFault::TooLong { units: 513 })),
+            (named(513, Some(0)), name(NameFault::TooLong { units: 513 })),
+            (named(1, Some(0)), name(NameFault::InnerNul { at: 0 })),
+            (named(3, Some(1)), name(NameFault::InnerNul { at: 1 })),
+            (named(512, Some(511)), name(NameFault::InnerNul { at: 511 })),
         ],
-    )?;
-    long[0] = 0;
-    let too_long = decided(rt.alloc(), &at_boot(&[]), &named(&long))?;
-    assert_eq!(rt; too_long, name(NameFault::TooLong { units: 513 }));
-    Ok(())
+    )
+}
+
+/// That many bytes 9 that are stored.
+fn sized(size: usize) -> Kept {
+    Kept {
+        attributes: 7,
+        stamp: NO_STAMP,
+        data: bytes(size, 9),
+    }
 }
 
 #[test]
 fn sizes_and_rooms_are_bounded(rt: HostRuntime) -> Result<(), Fail> {
-    let alloc = rt.alloc();
-    let most = vec![in alloc; 9; 33_728]?;
-    let one_more = vec![in alloc; 9; 33_729]?;
-    let one_less = vec![in alloc; 9; 33_727]?;
-    let rest = vec![in alloc; 9; 27_116]?;
-    let over_rest = vec![in alloc; 9; 27_117]?;
     let size = refused(SetReason::Size {
         have: 33_793,
         limit: 33_792,
@@ -472,8 +621,6 @@ fn sizes_and_rooms_are_bounded(rt: HostRuntime) -> Result<(), Fail> {
         have: 33_793,
         limit: 33_792,
     });
-    let done = write(7, NO_STAMP, 0, false);
-    let appended = write(7, NO_STAMP, 0, true);
     let full_store = refused(SetReason::Room {
         need: 57_248,
         have: 57_244,
@@ -482,33 +629,34 @@ fn sizes_and_rooms_are_bounded(rt: HostRuntime) -> Result<(), Fail> {
         need: 65_512,
         have: 65_508,
     });
-    let large = [variable(7, NO_STAMP, &most)];
-    let nearly = [variable(7, NO_STAMP, &one_less)];
-    let beside = Shelf {
-        used: 30_064,
-        ..at_boot(&[])
-    };
-    let beside_in_memory = Shelf {
-        used: 65_440,
-        ..at_boot(&[])
-    };
+    let written = write(7, NO_STAMP, 0, false);
+    let appended = write(7, NO_STAMP, 0, true);
+    let removed = Decision::Remove(Store::NonVolatile);
+    let (most, more) = (bytes(33_728, 9), bytes(33_729, 9));
     comes_to(
         &rt,
-        alloc,
+        rt.alloc(),
         &[
-            (at_boot(&[]), call(7, &most), done),
-            (at_boot(&[]), call(7, &one_more), size),
-            (at_boot(&[]), call(0x47, &most), done),
-            (at_boot(&[]), call(0x47, &one_more), size),
-            (at_boot(&large), call(0x47, &[9]), append_size),
-            (at_boot(&nearly), call(0x47, &[9]), appended),
-            (at_boot(&nearly), call(0x47, &one_more), size),
-            (at_boot(&large), call(0, &one_more), size),
-            (at_boot(&large), call(0x40, &[9]), Decision::Remove(Store::NonVolatile)),
-            (beside, call(7, &rest), done),
-            (beside, call(7, &over_rest), full_store),
-            (beside_in_memory, call(6, &[1, 2, 3, 4]), write(6, NO_STAMP, 0, false)),
-            (beside_in_memory, call(6, &[1, 2, 3, 4, 5]), full_memory),
+            (set(7, most), written),
+            (set(7, more), size),
+            (set(0x47, most), written),
+            (set(0x47, more), size),
+            (over(sized(33_728), set(0x47, bytes(1, 9))), append_size),
+            (over(sized(33_727), set(0x47, bytes(1, 9))), appended),
+            (over(sized(1), set(0x47, more)), size),
+            (over(sized(1), set(0, more)), size),
+            (over(sized(33_728), set(0x40, bytes(1, 9))), removed),
+            (beside(30_064, set(7, bytes(27_116, 9))), written),
+            (beside(30_064, set(7, bytes(27_117, 9))), full_store),
+            (
+                beside(30_064, over(sized(27_116), set(7, bytes(27_116, 8)))),
+                written,
+            ),
+            (
+                beside(65_440, set(6, bytes(4, 9))),
+                write(6, NO_STAMP, 0, false),
+            ),
+            (beside(65_440, set(6, bytes(5, 9))), full_memory),
         ],
     )
 }

@@ -1,4 +1,4 @@
-use Rattle.std.specs.Prelude.{◌≡◌, ◌≢◌, ℕ, ◌≤◌, ◌<◌, ◌⊎◌, ◌↔◌, true, false, nat_lt}
+use Rattle.std.specs.Prelude.{◌≡◌, ◌≢◌, ℕ, ◌≤◌, ◌<◌, ◌⊎◌, ◌↔◌, false, nat_lt}
 use Rattle.pending_range.specs.declared.ranges.Ranges.{Ranges}
 use Rattle.pending_range.specs.Ranges.{AgreeOutside, IsCovered, IsWider, extended, is_covered, no_ranges, whole_in}
 use Rattle.var_types.specs.declared.store.Store.{Store}

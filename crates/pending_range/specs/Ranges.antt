@@ -1,5 +1,5 @@
 -- Which offsets of the two stores ranges cover, and what that says of the stores' bytes.
-use Rattle.std.specs.Prelude.{◌≡◌, ℕ, zero, suc, ◌≤◌, ◌&&◌, Bool, true, List, [], ◌∷◌, length, min, max, nat_le, nat_lt, slice_index, if◌then◌else◌}
+use Rattle.std.specs.Prelude.{◌≡◌, ℕ, suc, ◌&&◌, Bool, true, List, [], ◌∷◌, length, min, max, nat_le, nat_lt, slice_index, if◌then◌else◌}
 use Rattle.pending_range.specs.declared.range.Range.{Range}
 use Rattle.pending_range.specs.declared.ranges.Ranges.{Ranges}
 use Rattle.var_types.specs.declared.store.Store.{Store}

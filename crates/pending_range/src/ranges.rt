@@ -14,6 +14,7 @@ impl Ranges {
     ghost use Rattle.pending_range.specs.Ranges.{IsCovered, IsWider, extended, is_covered, no_ranges, range_in, taken, whole_in, with_range};
 
     /// No offset of either store.
+    #[tactic(auto, unfolding(crate::specs::Ranges::no_ranges))]
     pub fn empty() -> Ranges
         ensures { result ≡ no_ranges }
     {
@@ -53,6 +54,7 @@ impl Ranges {
     }
 
     /// Covers exactly the offsets of a store below 65,536.
+    #[tactic(auto, unfolding(crate::specs::Ranges::whole_in))]
     pub fn whole(&mut self, store: Store)
         ensures { self.new ≡ whole_in self.old store }
     {
@@ -73,6 +75,7 @@ impl Ranges {
     }
 
     /// Whether an offset of a store is covered.
+    #[tactic(auto, unfolding(crate::specs::Ranges::is_covered))]
     pub fn covers(&self, store: Store, at: u32) -> bool
         ensures { result ≡ is_covered self.now store at }
     {

@@ -1,13 +1,18 @@
-// A library with one function.
+//! Reads of the two stores of variables as one map, and the cache of both that answers them.
 #![tactic(auto)]
 
-ghost use Rattle.std.specs.Prelude.{◌≡◌};
-ghost use Rattle.runtime_cache.specs.Echo.{echo_of};
+mod cache;
+mod get_variable;
+mod laws;
+mod next_variable_name;
+mod search;
+mod store_region;
+#[cfg(test)]
+mod tests;
 
-// The `ensures` clause is the contract: what `echo` returns is `echo_of` of its argument, a definition
-// in `specs/Echo.antt`, which a caller's clause can cite too.
-pub fn echo(x: usize) -> usize
-    ensures { result ≡ echo_of x }
-{
-    x
-}
+pub use cache::Cache;
+pub use get_variable::get;
+pub use laws::merged_caches_are_the_stores;
+pub use next_variable_name::next;
+pub use search::{above, stored};
+pub use store_region::region_in;

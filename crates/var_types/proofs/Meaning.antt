@@ -12,7 +12,7 @@ use Rattle.var_types.specs.Name.{name_check}
 use Rattle.var_types.specs.Key.{key_of}
 use Rattle.var_types.specs.Next.{next_above, next_behind, next_named, next_reply}
 use Rattle.var_types.specs.State.{State, visible_at}
-use Rattle.var_types.specs.Stores.{Means, Stores, is_in, map_in, part, state_in, state_with}
+use Rattle.var_types.specs.Stores.{Means, Stores, is_in, map_in, part, state_in, state_seen, state_with}
 use Rattle.var_types.specs.TwoRegions.{AreApart, joined}
 use Rattle.var_types.specs.TwoRegionsLaws.{AreOrdered}
 
@@ -63,7 +63,7 @@ module _ (stores : Stores) (state : State) (ordered : AreOrdered state.variables
 
   -- what readers of the stores see is what readers of the state do
   seen_stores : state_in stores ≡ state_with state.variables state.runtime
-  unfolding state_in
+  unfolding state_in state_seen map_in
   seen_stores = λ i. state_with (joined_stores i) (means.phase i)
 
   pub get_of_stores : (call : GetCall) → get_reply (state_in stores) call ≡ get_reply state call

@@ -56,13 +56,17 @@ store_region store bytes =
 unfoldable pub map_in : Store → List ℕ → List (Key × Variable)
 map_in store bytes = region_map (store_region store bytes)
 
--- a state with these variables in a phase; what reads look at is nothing else
+-- a state with these variables in a phase; reads look at nothing else
 abbrev pub state_with : List (Key × Variable) → Bool → State
 state_with variables runtime = record (start variables 0) { runtime = runtime }
 
--- the state that readers of two stores see: the variables of both, in their phase
+-- the state that readers of two regions see in a phase: the variables of both
+unfoldable pub state_seen : Region → Region → Bool → State
+state_seen a b runtime = state_with (joined (region_map a) (region_map b)) runtime
+
+-- the state that readers of the stores see
 unfoldable pub state_in : Stores → State
-state_in stores = state_with (joined (map_in NonVolatile stores.non_volatile) (map_in Volatile stores.volatile)) stores.runtime
+state_in stores = state_seen (store_region NonVolatile stores.non_volatile) (store_region Volatile stores.volatile) stores.runtime
 
 -- whether a variable is kept in a store (UEFI 2.10, 8.2)
 unfoldable pub is_in : Store → Key × Variable → Bool

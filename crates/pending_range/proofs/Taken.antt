@@ -1,5 +1,5 @@
 -- Bytes with some taken from newer ones, byte by byte.
-use Rattle.std.proofs.Common.{◌≡◌, ℕ, zero, suc, ◌+◌, ◌-◌, ◌≤◌, ◌<◌, ◌&&◌, Bool, true, false, cond, min, nat_le, nat_lt, List, [], ◌∷◌, ◌++◌, length, take, drop, get_or, refl, sym, ap, ◌∙◌, ⊎_elim, arith, length-append, length-drop, length-take}
+use Rattle.std.proofs.Common.{◌≡◌, ℕ, zero, suc, ◌+◌, ◌-◌, ◌≤◌, ◌<◌, ◌&&◌, Bool, true, false, cond, min, nat_le, nat_lt, List, [], ◌∷◌, ◌++◌, length, take, drop, get_or, refl, sym, ap, ◌∙◌, ⊎_elim, true≢false, arith, length-append, length-drop, length-take}
 use Rattle.std.proofs.lemmas.Bool.{cases_lt, le-ltb, lt-leb}
 use Rattle.std.proofs.lemmas.Grind.{same_number_lists}
 use Rattle.std.proofs.lemmas.List.{get_or-append_right, get_or-drop, get_or-take, get_or_append_left}
@@ -116,3 +116,20 @@ module _ (range : Range) (new old : List ℕ) (same : length new ≡ length old)
       get-copied k below
       ∙ ap (λ (i : ℕ). cond (is_within range i) (get_or new k 0) (get_or old k 0)) same_place
       ∙ sym (get-taken_from (is_within range) 0 new old same k below))
+
+-- bytes that are equal where none are taken are the newer ones, once the others were taken
+pub taken_all : (test : ℕ → Bool) (new old : List ℕ) → length new ≡ length old
+    → ((at : ℕ) → (test at ≡ true → ⊥) → get_or old at 0 ≡ get_or new at 0) → taken test new old ≡ new
+unfolding taken
+taken_all test new old same outside =
+    same_number_lists (taken_from test 0 new old) new (length-taken_from test 0 new old same ∙ sym same)
+    (λ k h.
+    let below : k < length old = omega (arith, length-taken_from test 0 new old same) in
+    let same_place : 0 + k ≡ k = omega arith in
+    get-taken_from test 0 new old same k below
+    ∙ ap (λ (i : ℕ). cond (test i) (get_or new k 0) (get_or old k 0)) same_place
+    ∙ by k (test k) refl)
+  where
+    by : (k : ℕ) (b : Bool) → test k ≡ b → cond b (get_or new k 0) (get_or old k 0) ≡ get_or new k 0
+    by k true e = refl
+    by k false e = outside k (λ covered. true≢false (sym covered ∙ e))

@@ -17,6 +17,7 @@ use var_region::{Found, Region};
 use var_types::{Guid, NameFault, NextAnswer, check_name};
 
 /// Puts the units that bytes are at the front of a buffer.
+#[tactic(auto, using(var_region::proofs::LentNames::length_units))]
 fn put_units(bytes: &[u8], into: &mut [u16])
     requires { length (units_in bytes.now) ≤ length into.old }
     ensures { into.new ≡ at_front (units_in bytes.now) into.old }
@@ -28,7 +29,7 @@ fn put_units(bytes: &[u8], into: &mut [u16])
 }
 
 /// The answer from the next variable: there is none, its name doesn't fit, or here it is.
-#[tactic(auto, unfolding(var_types::specs::Answers::next_answer))]
+#[tactic(auto, using(var_region::proofs::LentNames::length_units), unfolding(var_types::specs::Answers::next_answer))]
 fn answer(found: Option<Found>, room: u32, into: &mut [u16]) -> NextAnswer
     requires room { min (room / 2) 513 ≤ length into.old }
     requires name { IfSome found (λ f. length (units_in f.name.now) ≤ longest_name) }

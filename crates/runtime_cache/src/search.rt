@@ -30,10 +30,11 @@ pub fn stored<'a>(
         ≡ lookup (is_at (key_cmp (key_of guid.now name.now))) (joined (region_map non_volatile.now) (region_map volatile.now)) }
     ensures payload { IfSome result (λ f. length f.payload.now ≤ longest_region) }
 {
-    match non_volatile.find(guid, name) {
-        Some(found) => Some(found),
-        None => volatile.find(guid, name),
+    let found = non_volatile.find(guid, name);
+    if found.is_some() {
+        return found;
     }
+    volatile.find(guid, name)
 }
 
 /// A record, where callers see its variable: at runtime only one with runtime access.
@@ -48,6 +49,7 @@ fn shown<'a>(runtime: bool, found: Found<'a>) -> Option<Found<'a>>
 }
 
 /// What callers see at a key of two regions.
+#[tactic(auto, unfolding(var_types::specs::Stores::state_seen))]
 pub(crate) fn visible<'a>(
     non_volatile: &Region<'a>,
     volatile: &Region<'a>,

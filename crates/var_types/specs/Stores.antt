@@ -27,14 +27,10 @@ abbrev pub with_store : Stores → Store → List ℕ → Stores
 with_store stores NonVolatile bytes = record stores { non_volatile = bytes }
 with_store stores Volatile bytes = record stores { volatile = bytes }
 
--- the bytes of a store, its headers counted
-abbrev pub store_size : Store → ℕ
-store_size NonVolatile = volume_size
-store_size Volatile = volatile_size
-
--- each store has its size
+-- the stores have their sizes, headers counted: a volume's, and 65,536 bytes
 pub record HaveSizes (stores : Stores) : Type 0 where
-  pub size : (store : Store) → length (bytes_in stores store) ≡ store_size store
+  pub non_volatile : length stores.non_volatile ≡ volume_size
+  pub volatile : length stores.volatile ≡ volatile_size
 
 -- the offset of a store's first record: behind the headers of volume and store, or behind the store's alone (PI 1.8 volume 3, 3.2.1; EDK II,
 -- VARIABLE_STORE_HEADER)

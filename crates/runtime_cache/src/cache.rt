@@ -21,8 +21,8 @@ use var_types::{GetAnswer, Guid, NextAnswer, OutOfMemory, Store};
 /// none later.
 #[derive(Debug, Drop)]
 pub struct Cache {
-    non_volatile: Vec<u8>,
-    volatile: Vec<u8>,
+    pub(crate) non_volatile: Vec<u8>,
+    pub(crate) volatile: Vec<u8>,
     runtime: bool,
 }
 

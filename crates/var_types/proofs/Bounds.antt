@@ -52,7 +52,7 @@ short_name_in bytes size = by (size % 2 == 0)
     by false = tt
 
 -- what holds of a live record, if there is one
-abbrev IfLive : (Live → Type 0) → Option Live → Type 0
+abbrev pub IfLive : (Live → Type 0) → Option Live → Type 0
 IfLive P None = Unit {0}
 IfLive P (Some live) = P live
 
@@ -71,7 +71,7 @@ module _ (form : Form) (non_volatile : Bool) (bytes : List ℕ) where
       by false state = tt
 
   -- what holds of each live record holds of those among records
-  of_lives : (P : Live → Type 0) → ((r : Record) → IfLive P (live_of form non_volatile bytes r)) → (rs : List Record)
+  pub of_lives : (P : Live → Type 0) → ((r : Record) → IfLive P (live_of form non_volatile bytes r)) → (rs : List Record)
       → AllByRecursion P (lives form non_volatile bytes rs)
   of_lives P h [] = tt
   of_lives P h (r ∷ rs) = by (live_of form non_volatile bytes r) (h r) (of_lives P h rs)

@@ -88,11 +88,11 @@ module _ {K X : Type 0} {R : K → K → Ordering} (o : IsTotalOrder R) where
   at es q = lookup (is_at (R q)) es
 
   -- at the first key stands its value
-  at_head : (x : K × X) (xs : List (K × X)) → at (x ∷ xs) x.0 ≡ Some x.1
+  pub at_head : (x : K × X) (xs : List (K × X)) → at (x ∷ xs) x.0 ≡ Some x.1
   at_head x xs = lookup_head (is_at (R x.0)) x xs (ap is_eq (tied_itself o x.0))
 
   -- the first key does not stand again
-  past_head : (q : K) (x : K × X) (xs : List (K × X)) → IsStrictlySortedBy R (keys_of (x ∷ xs)) → is_eq (R q x.0) ≡ true → at xs q ≡ None
+  pub past_head : (q : K) (x : K × X) (xs : List (K × X)) → IsStrictlySortedBy R (keys_of (x ∷ xs)) → is_eq (R q x.0) ≡ true → at xs q ≡ None
   past_head q x xs s t = lookup-none (is_at (R q)) xs (none_past_head (eq_by_cmp_equiv o) q x xs (IsDistinct-from_sorted R _ s) t)
 
   module _ (x y : K × X) (xs ys : List (K × X)) (s : IsStrictlySortedBy R (keys_of (x ∷ xs))) (t : IsStrictlySortedBy R (keys_of (y ∷ ys))) (h : (q : K) → at (x ∷ xs) q ≡ at (y ∷ ys) q) where

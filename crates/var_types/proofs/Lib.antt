@@ -25,3 +25,6 @@ pub mod FirstKeys
 pub mod FirstShown
 pub mod Passing
 pub mod Least
+pub mod Joined
+pub mod Meaning
+pub mod Owned

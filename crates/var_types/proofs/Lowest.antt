@@ -7,7 +7,7 @@ use Rattle.var_types.specs.Least.{lower}
 
 module _ {K : Type 0} {R : K → K → Ordering} (o : IsTotalOrder R) where
   -- what is not below a key is not below one that is not above that key
-  not_lower : (a b c : K) → is_lt (R b a) ≡ false → is_lt (R c b) ≡ false → is_lt (R c a) ≡ false
+  pub not_lower : (a b c : K) → is_lt (R b a) ≡ false → is_lt (R c b) ≡ false → is_lt (R c a) ≡ false
   not_lower a b c p q = by (R c a) refl (R b a) refl p
     where
       by : (r : Ordering) → R c a ≡ r → (s : Ordering) → R b a ≡ s → is_lt s ≡ false → is_lt r ≡ false

@@ -97,7 +97,7 @@ module _ {K : Type 0} {R : K → K → Ordering} (total : IsTotalOrder R) where
   below_from_above a b h = total.antisymm b a ∙ ap ordering_reverse h
 
   -- what is below the first is below the others
-  below_all : (k e : K) (ks : List K) → R k e ≡ Less → AllByRecursion (λ y. R e y ≡ Less) ks → AllByRecursion (λ y. R k y ≡ Less) ks
+  pub below_all : (k e : K) (ks : List K) → R k e ≡ Less → AllByRecursion (λ y. R e y ≡ Less) ks → AllByRecursion (λ y. R k y ≡ Less) ks
   below_all k e [] h all = tt
   below_all k e (y ∷ ys) h all = (total.trans k e y h all.0, below_all k e ys h all.1)
 

@@ -32,3 +32,7 @@ pub mod Least
 pub mod Region
 pub mod Kept
 pub mod Texts
+pub mod Answers
+pub mod TwoRegions
+pub mod Stores
+pub mod TwoRegionsLaws

@@ -6,6 +6,8 @@ ghost use Rattle.var_types.specs.Laws.{RightRepliesFit, SteppedRepliesFit, Stepp
 ghost use Rattle.var_types.specs.Laws.{SameChangesLeaveTheSameState, GuidsReadBack};
 ghost use Rattle.var_types.specs.Laws.{BytesHaveRecords, BytesHaveOneList, MapsStandInKeyOrder, MapsHoldWhatCounts, WhatCountsDecidesTheMap};
 ghost use Rattle.var_types.specs.State.{start};
+ghost use Rattle.var_types.specs.TwoRegionsLaws.{JoinedMapsAreOrdered, JoinedLookUps, FirstOfJoinedIsLesser, PartsAreTheMap};
+ghost use Rattle.var_types.specs.TwoRegionsLaws.{MeaningStoresAreApart, MeaningStoresAnswerAlike, RegionsOwnTheirMaps};
 ghost use Rattle.var_types.specs.Walk.{IsSound, ChangesKeepSoundness, WalksAnswerEachKeyOnce};
 
 /// Replies that are right at a place of a history, and those of stepped calls, are of their calls' kinds.
@@ -62,4 +64,25 @@ pub fn maps_hold_what_counts()
 /// Keys compare as the definition of their order says.
 pub fn keys_are_ordered_as_defined()
     ensures { (a b : Key) → ⟦<crate::Key as Ord>⟧.cmp a b ≡ key_cmp a b }
+{}
+
+/// The variables of two regions as one map: it stands in key order, a look-up in it is the one's or the other's, and its first variable that
+/// passes a test is the lesser of the two regions' own; a map's two parts by a test are apart, and joined they are the map.
+pub fn two_maps_are_one()
+    ensures ordered { JoinedMapsAreOrdered }
+    ensures look_ups { JoinedLookUps }
+    ensures first { FirstOfJoinedIsLesser }
+    ensures parts { PartsAreTheMap }
+{}
+
+/// Reads of two stores that mean a state answer as reads of the state; no key has a variable in both.
+pub fn stores_answer_for_their_state()
+    ensures apart { MeaningStoresAreApart }
+    ensures alike { MeaningStoresAnswerAlike }
+{}
+
+/// Each variable of a region's map has what its records have: a well-formed name, no more data than the region has bytes, and in the
+/// non-volatile store the attribute for it.
+pub fn regions_own_their_maps()
+    ensures { RegionsOwnTheirMaps }
 {}

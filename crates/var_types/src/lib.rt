@@ -3,6 +3,7 @@
 
 mod answered;
 mod ask;
+mod answers;
 pub mod attributes;
 mod auth_fault;
 mod bytes;
@@ -36,6 +37,7 @@ mod verdict;
 pub use answered::{Answered, Route};
 pub use ask::{Ask, Denied, Rule};
 pub use auth_fault::AuthFault;
+pub use answers::{GetAnswer, NextAnswer};
 pub use bytes::Bytes;
 pub use call::{Call, GetCall, NextCall, SetCall};
 pub use decision::Decision;
@@ -45,7 +47,8 @@ pub use key::Key;
 pub use laws::{
     bytes_have_one_list_of_records, changes_decide_the_state, changes_keep_soundness,
     guids_read_back, keys_are_ordered_as_defined, legal_sessions_grow, maps_hold_what_counts,
-    replies_are_of_their_calls_kind, stepped_sessions_are_legal, walks_answer_each_key_once,
+    regions_own_their_maps, replies_are_of_their_calls_kind, stepped_sessions_are_legal,
+    stores_answer_for_their_state, two_maps_are_one, walks_answer_each_key_once,
 };
 pub use name::{LONGEST_NAME, NameFault, check_name};
 pub use out_of_memory::OutOfMemory;

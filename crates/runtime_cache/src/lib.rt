@@ -1,0 +1,18 @@
+//! Reads of the two stores of variables as one map, and the cache of both that answers them.
+#![tactic(auto)]
+
+mod cache;
+mod get_variable;
+mod laws;
+mod next_variable_name;
+mod search;
+mod store_region;
+#[cfg(test)]
+mod tests;
+
+pub use cache::Cache;
+pub use get_variable::get;
+pub use laws::merged_caches_are_the_stores;
+pub use next_variable_name::next;
+pub use search::{above, stored};
+pub use store_region::region_in;

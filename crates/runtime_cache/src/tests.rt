@@ -1,0 +1,4 @@
+mod borders;
+mod merges;
+mod pairs;
+mod records;

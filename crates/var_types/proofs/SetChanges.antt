@@ -24,6 +24,7 @@ use Rattle.var_types.specs.declared.decision.Decision.TheVariants.{Refuse, Same,
 use Rattle.var_types.specs.declared.descriptor.Descriptor.{Descriptor}
 use Rattle.var_types.specs.declared.descriptor.DescriptorFault.{DescriptorFault}
 use Rattle.var_types.specs.declared.name.NameFault.{NameFault}
+use Rattle.var_types.specs.declared.stamp.Stamp.{Stamp}
 use Rattle.var_types.specs.declared.variable.Variable.{Variable}
 
 -- what a test says that doesn't hold
@@ -103,38 +104,49 @@ set_over call stored = record {
   payload = drop (skip_of call.bytes (front_of call)) call.bytes;
 }
 
+-- what a write of this stamp says of what is stored, of which some stays
+record IsWrite (state : State) (call : SetCall) (stays : Bool) (stamp : Stamp) (stored : Option Variable) : Type 0 where
+  made : variable_by call stored (without_append call.attributes) stamp (skip_of call.bytes (front_of call)) stays
+      ≡ made_of (set_over call stored)
+  size : record_size call.name (made_of (set_over call stored)).bytes ≤ largest_record
+  room : room_needed state (set_key call) (made_of (set_over call stored)) ≤ room_limit (store_of (without_append call.attributes))
+  alike : IfSome stored (λ variable. variable.attributes ≡ without_append call.attributes)
+  there : stays ≡ true → IsSome stored
+
 module _ (state : State) (call : SetCall) where
-  -- what a write may rely on, with what is stored
-  follows_write : (stored : Option Variable) (stays : Bool) → stored_at state (set_key call) ≡ stored → Passed state (set_over call stored)
-      → deletes (set_over call stored) ≡ false → (stays ≡ true → IsSome stored)
+  -- a set that is no deletion makes such a write
+  is_write : (stored : Option Variable) (stays : Bool) → Passed state (set_over call stored) → deletes (set_over call stored) ≡ false
       → kept_bytes stays stored ≡ kept_bytes (is_append call.attributes) stored
-      → IfSome stored (λ variable. variable.attributes ≡ without_append call.attributes)
-      → MayPut state call (without_append call.attributes) (made_of (set_over call stored)).stamp (skip_of call.bytes (front_of call)) stays
+      → IfSome stored (λ variable. variable.attributes ≡ without_append call.attributes) → (stays ≡ true → IsSome stored)
+      → IsWrite state call stays (made_of (set_over call stored)).stamp stored
   unfolding made_of
-  follows_write stored stays is p kept some same alike =
+  is_write stored stays p kept same alike there =
       let set : Reading = set_over call stored in
-      let made : variable_by call stored (without_append call.attributes) (made_of set).stamp (skip_of call.bytes (front_of call)) stays ≡ made_of set =
-      ap (λ (front : List ℕ). record (made_of set) { bytes = front ++ set.payload }) same in
-      let size : record_size call.name (made_of set).bytes ≤ largest_record = made_size set kept (payload_fits call.name set.payload p.size) p.append_size in
-      let IsRoom : Bool → Type 0 = λ deletion.
-      room_case deletion (room_needed state (set_key call) (made_of set)) (room_limit (store_of (without_append call.attributes))) ≡ None in
-      let room = room_fits (room_needed state (set_key call) (made_of set)) (room_limit (store_of (without_append call.attributes))) (subst IsRoom kept p.room) in
-      let Made : Option Variable → Type 0 = λ found.
-      variable_by call found (without_append call.attributes) (made_of set).stamp (skip_of call.bytes (front_of call)) stays
-      ≡ made_of (set_over call found) in
-      let Fits : Option Variable → Type 0 = λ found. record_size call.name (made_of (set_over call found)).bytes ≤ largest_record in
-      let HasRoom : Option Variable → Type 0 = λ found.
-      room_needed state (set_key call) (made_of (set_over call found)) ≤ room_limit (store_of (without_append call.attributes)) in
-      let IsAlike : Option Variable → Type 0 = λ found. IfSome found (λ variable. variable.attributes ≡ without_append call.attributes) in
-      let IsThere : Option Variable → Type 0 = λ found. stays ≡ true → IsSome found in
+      let need = room_needed state (set_key call) (made_of set) in
+      let have = room_limit (store_of (without_append call.attributes)) in
+      let Passes : Bool → Type 0 = λ deletion. room_case deletion need have ≡ None in
+      record {
+        made = ap (λ (front : List ℕ). record (made_of set) { bytes = front ++ set.payload }) same;
+        size = made_size set kept (payload_fits call.name set.payload p.size) p.append_size;
+        room = room_fits need have (subst Passes kept p.room);
+        alike = alike;
+        there = there;
+      }
+
+  -- what a write may rely on
+  follows_write : (stored : Option Variable) (stays : Bool) (stamp : Stamp) → stored_at state (set_key call) ≡ stored
+      → Passed state (set_over call stored) → IsWrite state call stays stamp stored
+      → MayPut state call (without_append call.attributes) stamp (skip_of call.bytes (front_of call)) stays
+  follows_write stored stays stamp is p write =
+      let here : IsWrite state call stays stamp (stored_at state (set_key call)) = subst (IsWrite state call stays stamp) (sym is) write in
       record {
         named = named (name_check call.name) p.name;
         more = more state.made state.limit p.history;
-        made = subst Made (sym is) made;
-        size = subst Fits (sym is) size;
-        room = subst HasRoom (sym is) room;
-        alike = subst IsAlike (sym is) alike;
-        appended = subst IsThere (sym is) some;
+        made = here.made;
+        size = here.size;
+        room = here.room;
+        alike = here.alike;
+        appended = here.there;
         within = front_within call;
         known = known_bits call.attributes p.unknown;
       }
@@ -143,7 +155,8 @@ module _ (state : State) (call : SetCall) where
   follows_over : (stored : Option Variable) → stored_at state (set_key call) ≡ stored → Passed state (set_over call stored)
       → Follows state call (change_over (set_over call stored) stored)
   follows_over None is p =
-      follows_write None false is p (not_missing (deletes (set_over call None)) (set_over call None).payload p.missing) (λ h. h) refl tt
+      follows_write None false (made_of (set_over call None)).stamp is p
+      (is_write None false p (not_missing (deletes (set_over call None)) (set_over call None).payload p.missing) refl tt (λ h. h))
   follows_over (Some variable) is p = by (deletes (set_over call (Some variable))) refl
     where
       by : (deletion : Bool) → deletes (set_over call (Some variable)) ≡ deletion
@@ -159,8 +172,9 @@ module _ (state : State) (call : SetCall) where
         more = more state.made state.limit p.history;
       }
       by false kept =
-          follows_write (Some variable) (is_append call.attributes) is p kept (λ h. refl) refl
-          (same_attributes call.attributes variable (kept_access (set_over call (Some variable)) kept) p.differ)
+          follows_write (Some variable) (is_append call.attributes) (made_of (set_over call (Some variable))).stamp is p
+          (is_write (Some variable) (is_append call.attributes) p kept refl
+          (same_attributes call.attributes variable (kept_access (set_over call (Some variable)) kept) p.differ) (λ h. refl))
 
   -- what the change of a set may rely on
   follows_change : Passed state (reading_of state call) → Follows state call (change_of (reading_of state call))

@@ -39,7 +39,7 @@ has attributes bits = not (bit_and attributes bits == 0)
 abbrev pub has_access : ℕ → Bool
 has_access attributes = has attributes boot_access_bit || has attributes runtime_access_bit
 
--- whether a set is time-based: its bytes begin with a descriptor (UEFI 2.10, 8.2.1)
+-- whether a set is time-based: its bytes begin with a descriptor (UEFI 2.10, 8.2)
 abbrev pub is_time_based : ℕ → Bool
 is_time_based attributes = has attributes time_based_bit
 

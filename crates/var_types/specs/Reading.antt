@@ -24,7 +24,8 @@ pub record Reading : Type 0 where
   pub front : Result Descriptor DescriptorFault
   pub payload : List ℕ
 
--- the descriptor that a set's bytes begin with: one of no bytes and no stamp, where the set is not time-based (UEFI 2.10, 8.2.2)
+-- the descriptor that a set's bytes begin with: one of no bytes and no stamp, where the set is not time-based (UEFI 2.10, 8.2,
+-- EFI_VARIABLE_AUTHENTICATION_2)
 abbrev pub front_of : SetCall → Result Descriptor DescriptorFault
 front_of call = if is_time_based call.attributes then descriptor_of call.bytes else Ok (record { stamp = no_stamp; length = 0 })
 
@@ -61,7 +62,8 @@ abbrev pub kept_bytes : Bool → Option Variable → List ℕ
 kept_bytes append None = []
 kept_bytes append (Some variable) = if append then variable.bytes else []
 
--- the stamp that the variable gets: an append keeps the later of the stored one and its own (UEFI 2.10, 8.2.2)
+-- the stamp that the variable gets: an append keeps the later of the stored one and its own (UEFI 2.10, 8.2,
+-- EFI_VARIABLE_AUTHENTICATION_2)
 abbrev pub kept_stamp : Bool → Option Variable → Stamp → Stamp
 kept_stamp append None new = new
 kept_stamp append (Some variable) new = if append then later_of new variable.stamp else new

@@ -104,7 +104,7 @@ is_bad Bad = true
 unfoldable pub verdict_case : ℕ → Verdict → Option Decision
 verdict_case attributes verdict = refuse_if (is_time_based attributes && is_bad verdict) BadVerdict
 
--- the stamp of a time-based set that doesn't append isn't later than the stored one (UEFI 2.10, 8.2.2, SECURITY_VIOLATION)
+-- the stamp of a time-based set that doesn't append isn't later than the stored one (UEFI 2.10, 8.2.3, SECURITY_VIOLATION)
 unfoldable pub stamp_case : ℕ → Option Variable → Stamp → Option Decision
 stamp_case attributes None new = None
 stamp_case attributes (Some variable) new =

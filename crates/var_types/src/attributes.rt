@@ -33,7 +33,7 @@ pub fn has(attributes: u32, bits: u32) -> bool
     attributes & bits != 0
 }
 
-/// Whether a set is time-based: its bytes begin with a descriptor (UEFI 2.10, 8.2.2).
+/// Whether a set is time-based: its bytes begin with a descriptor (UEFI 2.10, 8.2).
 pub fn is_time_based(attributes: u32) -> bool
     ensures { result ≡ is_time_based attributes }
 {

@@ -10,6 +10,7 @@ pub mod Walks
 pub mod Pieces
 pub mod Guids
 pub mod Records
+pub mod Placed
 pub mod Entries
 pub mod Chosen
 pub mod Bounds

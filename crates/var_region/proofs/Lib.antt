@@ -11,5 +11,7 @@ pub mod Marks
 pub mod Names
 pub mod Begun
 pub mod Torn
+pub mod Steps
+pub mod Appends
 pub mod Marked
 pub mod NewRecords

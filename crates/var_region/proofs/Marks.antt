@@ -22,7 +22,7 @@ use Rattle.var_region.specs.WritingLaws.{IsRestated, MarksChangeOneRecord, Marks
 use Rattle.var_region.specs.Written.{in_state, state_set, with_bytes}
 
 -- a header that isn't alone isn't so in another state
-full_restated : (h : Header) (state : ℕ) → is_bare h ≡ false → state ≢ 0xFF → is_bare (record h { state = state }) ≡ false
+pub full_restated : (h : Header) (state : ℕ) → is_bare h ≡ false → state ≢ 0xFF → is_bare (record h { state = state }) ≡ false
 full_restated h state full apart =
     by (h.state == 0xFF) (h.name_size == erased_number) (h.data_size == erased_number) (h.attributes == erased_number) (state == 0xFF) full (ne_eqb state 0xFF apart)
   where

@@ -11,6 +11,7 @@ pub mod Pieces
 pub mod Guids
 pub mod Records
 pub mod Placed
+pub mod Sums
 pub mod Entries
 pub mod Chosen
 pub mod Bounds

@@ -143,17 +143,14 @@ module _ (all : List Live) (replaced : Option Key) (key : Key) where
   some_first c kept [] same = refl
   some_first c kept (live ∷ ls) same = by (is_of key live) refl (c.at == live.at) refl (some_first c kept ls same.1)
     where
-      abbrev later : Bool
-      later = list_any (λ live. is_of key live && (c.at == live.at)) ls
-
       skip : (k : Bool) → is_of key live ≡ false → first_of key (cond k (live ∷ kept_of all replaced ls) (kept_of all replaced ls)) ≡ first_of key (kept_of all replaced ls)
       skip true m = ap (λ b. cond b (Some live.variable) (first_of key (kept_of all replaced ls))) m
       skip false m = refl
 
       by : (mine : Bool) → is_of key live ≡ mine → (here : Bool) → (c.at == live.at) ≡ here
-          → first_of key (kept_of all replaced ls) ≡ cond later (Some c.variable) None
+          → first_of key (kept_of all replaced ls) ≡ cond (list_any (λ live. is_of key live && (c.at == live.at)) ls) (Some c.variable) None
           → first_of key (cond (is_kept all replaced live) (live ∷ kept_of all replaced ls) (kept_of all replaced ls))
-          ≡ cond ((mine && here) || later) (Some c.variable) None
+          ≡ cond ((mine && here) || list_any (λ live. is_of key live && (c.at == live.at)) ls) (Some c.variable) None
       by false m here h rest = skip (is_kept all replaced live) m ∙ rest
       by true m true h rest =
           ap (λ k. first_of key (cond k (live ∷ kept_of all replaced ls) (kept_of all replaced ls))) (kept live m ∙ h)
@@ -193,28 +190,25 @@ kept_first : (region : Region) (replaced : Option Key) (key : Key)
 unfolding kept_lives
 kept_first region replaced key = by (is_replaced replaced key) refl (chosen key (region_lives region)) refl
   where
-    abbrev all : List Live
-    all = region_lives region
-
     -- whether a record of the key is kept
-    mine : (live : Live) → is_of key live ≡ true → is_kept all replaced live ≡ (not (is_replaced replaced key) && is_here live.at (chosen key all))
-    mine live m = ap (λ k. not (is_replaced replaced k) && is_here live.at (chosen k all)) (sym (same_of key live m))
+    mine : (live : Live) → is_of key live ≡ true → is_kept (region_lives region) replaced live ≡ (not (is_replaced replaced key) && is_here live.at (chosen key (region_lives region)))
+    mine live m = ap (λ k. not (is_replaced replaced k) && is_here live.at (chosen k (region_lives region))) (sym (same_of key live m))
 
-    same_all : (c : Live) → chosen key all ≡ Some c → (ls : List Live) → AllByRecursion (IsAt region) ls → AllByRecursion (λ live. c.at ≡ live.at → live ≡ c) ls
+    same_all : (c : Live) → chosen key (region_lives region) ≡ Some c → (ls : List Live) → AllByRecursion (IsAt region) ls → AllByRecursion (λ live. c.at ≡ live.at → live ≡ c) ls
     same_all c counts [] each = tt
-    same_all c counts (live ∷ ls) each = (one_place region c live (chosen-all (IsAt region) key all (each_at region) c counts) each.0, same_all c counts ls each.1)
+    same_all c counts (live ∷ ls) each = (one_place region c live (chosen-all (IsAt region) key (region_lives region) (each_at region) c counts) each.0, same_all c counts ls each.1)
 
-    by : (gone : Bool) → is_replaced replaced key ≡ gone → (found : Option Live) → chosen key all ≡ found
-        → first_of key (kept_of all replaced all) ≡ cond gone None (variable_of found)
-    by true g found f = none_first all replaced key (λ live m. mine live m ∙ ap (λ b. not b && is_here live.at (chosen key all)) g) all
+    by : (gone : Bool) → is_replaced replaced key ≡ gone → (found : Option Live) → chosen key (region_lives region) ≡ found
+        → first_of key (kept_of (region_lives region) replaced (region_lives region)) ≡ cond gone None (variable_of found)
+    by true g found f = none_first (region_lives region) replaced key (λ live m. mine live m ∙ ap (λ b. not b && is_here live.at (chosen key (region_lives region))) g) (region_lives region)
     by false g None f =
-        none_first all replaced key
-        (λ live m. mine live m ∙ ap (λ b. not b && is_here live.at (chosen key all)) g ∙ ap (is_here live.at) f) all
+        none_first (region_lives region) replaced key
+        (λ live m. mine live m ∙ ap (λ b. not b && is_here live.at (chosen key (region_lives region))) g ∙ ap (is_here live.at) f) (region_lives region)
     by false g (Some c) f =
-        some_first all replaced key c
-        (λ live m. mine live m ∙ ap (λ b. not b && is_here live.at (chosen key all)) g ∙ ap (is_here live.at) f) all
-        (same_all c f all (each_at region))
-        ∙ ap (λ b. cond b (Some c.variable) None) (member key all c f)
+        some_first (region_lives region) replaced key c
+        (λ live m. mine live m ∙ ap (λ b. not b && is_here live.at (chosen key (region_lives region))) g ∙ ap (is_here live.at) f) (region_lives region)
+        (same_all c f (region_lives region) (each_at region))
+        ∙ ap (λ b. cond b (Some c.variable) None) (member key (region_lives region) c f)
 
 -- what stands at a key after a replacement
 after_look : (region : Region) (replace : Replace) (key : Key)
@@ -225,25 +219,22 @@ after_look region replace key =
     ∙ ap (λ found. option_or found (first_of key (added_lives replace))) (kept_first region (replaced_key replace) key)
     ∙ by replace
   where
-    abbrev found : Option Variable
-    found = variable_of (chosen key (region_lives region))
-
-    holds : lookup (is_at (key_cmp key)) (map_of (region_lives region)) ≡ found
+    holds : lookup (is_at (key_cmp key)) (map_of (region_lives region)) ≡ (variable_of (chosen key (region_lives region)))
     holds = (map_exact (region_lives region)).holds key
 
     or_none : (o : Option Variable) → option_or o None ≡ o
     or_none None = refl
     or_none (Some v) = refl
 
-    put : (b : Bool) (v : Variable) → option_or (cond b None found) (cond b (Some v) None) ≡ cond b (Some v) found
+    put : (b : Bool) (v : Variable) → option_or (cond b None (variable_of (chosen key (region_lives region)))) (cond b (Some v) None) ≡ cond b (Some v) (variable_of (chosen key (region_lives region)))
     put true v = refl
-    put false v = or_none found
+    put false v = or_none (variable_of (chosen key (region_lives region)))
 
-    by : (replace : Replace) → option_or (cond (is_replaced (replaced_key replace) key) None found) (first_of key (added_lives replace))
+    by : (replace : Replace) → option_or (cond (is_replaced (replaced_key replace) key) None (variable_of (chosen key (region_lives region)))) (first_of key (added_lives replace))
         ≡ lookup (is_at (key_cmp key)) (map_after replace (map_of (region_lives region)))
-    by Keep = or_none found ∙ sym holds
+    by Keep = or_none (variable_of (chosen key (region_lives region))) ∙ sym holds
     by (Put new) =
-        ap (λ b. option_or (cond b None found) (cond (is_of key (new_live 0 new)) (Some (new_variable new)) None)) (alike_both (new_key new) key)
+        ap (λ b. option_or (cond b None (variable_of (chosen key (region_lives region)))) (cond (is_of key (new_live 0 new)) (Some (new_variable new)) None)) (alike_both (new_key new) key)
         ∙ put (is_of key (new_live 0 new)) (new_variable new)
         ∙ ap (cond (is_of key (new_live 0 new)) (Some (new_variable new))) (sym holds)
         ∙ sym (lookup-insert_entry key_cmp_total (new_key new) (new_variable new) (map_of (region_lives region)) key)
@@ -251,7 +242,7 @@ after_look region replace key =
         let test = is_at (key_cmp (key_of guid name.now)) in
         let laws = eq_by_cmp_equiv key_cmp_total in
         let es = map_of (region_lives region) in
-        or_none (cond (test key) None found)
+        or_none (cond (test key) None (variable_of (chosen key (region_lives region))))
         ∙ ap (cond (test key) None) (sym holds)
         ∙ sym (lookup-remove_entry laws test (λ x y t. laws.congr (key_of guid name.now) x y t) key es
         (IsDistinct-from_sorted key_cmp (keys_of es) (map_exact (region_lives region)).ordered))

@@ -118,10 +118,11 @@ module _ (all : List Live) (replaced : Option Key) where
       by : (k : Bool) → is_kept all replaced live ≡ k → AreDistinct (kept_of all replaced ls ++ more)
           → AreDistinct (cond k (live ∷ kept_of all replaced ls) (kept_of all replaced ls) ++ more)
       by false k rest = rest
-      by true k rest =
-          (list_any-append (is_of live.key) (kept_of all replaced ls) more
-          ∙ (λ i. none_again live k ls (live.at + 1) (omega arith) rises.1 i || apart live k i)
-          , rest)
+      by true k rest = (
+        list_any-append (is_of live.key) (kept_of all replaced ls) more
+            ∙ (λ i. none_again live k ls (live.at + 1) (omega arith) rises.1 i || apart live k i),
+        rest,
+      )
 
 -- the keys of two records are alike both ways
 pub alike_both : (a b : Key) → is_at (key_cmp a) b ≡ is_at (key_cmp b) a

@@ -85,10 +85,10 @@ unfolding region_lives region_records
 every_few =
     each_region (λ region. length region.bytes ≤ 65536 → region.first ≤ length region.bytes → rooms (region_lives region) ≤ 131078)
     (λ bytes first nv few low.
-        let read = read_all bytes first (records Authenticated bytes first) (has_all Authenticated bytes first) in
-        let near = tail_near nv bytes first (records Authenticated bytes first) (omega arith) read in
-        let room = rooms_near nv bytes first (records Authenticated bytes first) read in
-        omega arith)
+    let read = read_all bytes first (records Authenticated bytes first) (has_all Authenticated bytes first) in
+    let near = tail_near nv bytes first (records Authenticated bytes first) (omega arith) read in
+    let room = rooms_near nv bytes first (records Authenticated bytes first) read in
+    omega arith)
 
 -- and those kept
 pub rooms_few : (region : Region) (replaced : Option Key) → length region.bytes ≤ 65536 → region.first ≤ length region.bytes

@@ -109,12 +109,12 @@ unfolding region_lives region_records
 each_at =
     each_region (λ region. AllByRecursion (IsAt region) (region_lives region))
     (λ bytes first nv.
-        each_stored nv bytes (IsAt (record { form = Authenticated; bytes = bytes; first = first; non_volatile = nv }))
-        (λ at r live here stored is.
-            let place : live.at ≡ r.at = ap (λ (l : Live). l.at) stored.same in
-            let read = read_of bytes at r here in
-            (r, (ap (record_at Authenticated bytes) (place ∙ read.place) ∙ here, is)))
-        first (records Authenticated bytes first) (read_all bytes first (records Authenticated bytes first) (has_all Authenticated bytes first)))
+    each_stored nv bytes (IsAt (record { form = Authenticated; bytes = bytes; first = first; non_volatile = nv }))
+    (λ at r live here stored is.
+    let place : live.at ≡ r.at = ap (λ (l : Live). l.at) stored.same in
+    let read = read_of bytes at r here in
+    (r, (ap (record_at Authenticated bytes) (place ∙ read.place) ∙ here, is)))
+    first (records Authenticated bytes first) (read_all bytes first (records Authenticated bytes first) (has_all Authenticated bytes first)))
 
 -- two live records at one place are one
 one_place : (region : Region) (c l : Live) → IsAt region c → IsAt region l → c.at ≡ l.at → l ≡ c
@@ -180,9 +180,10 @@ member key all c counts =
     each : (ls : List Live) → ((test : Live → Bool) → list_any test ls ≡ true → list_any test all ≡ true)
         → AllByRecursion (λ found. is_of key found ≡ true → list_any (λ live. is_of key live && (found.at == live.at)) all ≡ true) ls
     each [] within = tt
-    each (found ∷ ls) within =
-        ( (λ m. within (λ live. is_of key live && (found.at == live.at)) (head found m ls))
-        , each ls (λ test h. within test (later (test found) (list_any test ls) h)) )
+    each (found ∷ ls) within = (
+      (λ m. within (λ live. is_of key live && (found.at == live.at)) (head found m ls)),
+      each ls (λ test h. within test (later (test found) (list_any test ls) h)),
+    )
 
 -- of the records kept the first of a key is the one that counted, where the key isn't replaced
 kept_first : (region : Region) (replaced : Option Key) (key : Key)

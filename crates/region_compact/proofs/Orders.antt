@@ -36,12 +36,12 @@ unfolding region_lives region_records
 with_records =
     each_region (λ region. AllByRecursion (HasRecord region) (region_lives region))
     (λ bytes first nv.
-        each_stored nv bytes (HasRecord (record { form = Authenticated; bytes = bytes; first = first; non_volatile = nv }))
-        (λ at r live here stored is.
-            let read = read_of bytes at r here in
-            let place : live.at ≡ at = ap (λ (l : Live). l.at) stored.same ∙ read.place in
-            record { r = r; read = subst (λ n. IsRead bytes n r) (sym place) read; stored = stored })
-        first (records Authenticated bytes first) (read_all bytes first (records Authenticated bytes first) (has_all Authenticated bytes first)))
+    each_stored nv bytes (HasRecord (record { form = Authenticated; bytes = bytes; first = first; non_volatile = nv }))
+    (λ at r live here stored is.
+    let read = read_of bytes at r here in
+    let place : live.at ≡ at = ap (λ (l : Live). l.at) stored.same ∙ read.place in
+    record { r = r; read = subst (λ n. IsRead bytes n r) (sym place) read; stored = stored })
+    first (records Authenticated bytes first) (read_all bytes first (records Authenticated bytes first) (has_all Authenticated bytes first)))
 
 -- what holds of each live record holds of those kept
 pub all_kept : (P : Live → Type 0) (all : List Live) (replaced : Option Key) (ls : List Live) → AllByRecursion P ls → AllByRecursion P (kept_of all replaced ls)

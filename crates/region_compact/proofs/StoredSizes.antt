@@ -95,11 +95,11 @@ unfolding region_lives region_records
 inside_region =
     each_region (λ region. AllByRecursion (IsInside region.bytes) (region_lives region))
     (λ bytes first nv.
-        each_stored nv bytes (IsInside bytes)
-        (λ at r live here stored is.
-            let read = read_of bytes at r here in
-            let size = stored_size nv bytes at r live read stored in
-            let place = stored_place nv bytes at r live read stored in
-            let fits = read.fits stored.whole in
-            omega arith)
-        first (records Authenticated bytes first) (read_all bytes first (records Authenticated bytes first) (has_all Authenticated bytes first)))
+    each_stored nv bytes (IsInside bytes)
+    (λ at r live here stored is.
+    let read = read_of bytes at r here in
+    let size = stored_size nv bytes at r live read stored in
+    let place = stored_place nv bytes at r live read stored in
+    let fits = read.fits stored.whole in
+    omega arith)
+    first (records Authenticated bytes first) (read_all bytes first (records Authenticated bytes first) (has_all Authenticated bytes first)))

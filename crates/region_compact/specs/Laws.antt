@@ -52,7 +52,7 @@ OfCompactions P =
 abbrev pub CompactionsKeepTheOrder : Type 0
 CompactionsKeepTheOrder =
     OfCompactions (λ region replace front left. region_lives (anew region replace front left)
-        ≡ moved (length front) (kept_lives region (replaced_key replace) ++ added_lives replace))
+    ≡ moved (length front) (kept_lives region (replaced_key replace) ++ added_lives replace))
 
 -- its map is the region's with the replacement
 abbrev pub CompactionsKeepTheMap : Type 0
@@ -65,6 +65,7 @@ pub record IsInOrder (region : Region) (tail : ℕ) : Type 0 where
   pub offset : tail_offset region ≡ tail
   pub clean : is_tail_clean region ≡ true
 
+-- it is in that order, and its tail stands behind its size
 abbrev pub CompactionsLeaveOrder : Type 0
 CompactionsLeaveOrder = OfCompactions (λ region replace front left. IsInOrder (anew region replace front left) (length front + size_after region replace))
 

@@ -46,22 +46,13 @@ fn copy(bytes: &[u8], found: &Found, into: &mut [u8], out: u32)
 }
 
 /// Copies a live record where it is kept, and answers the offset behind it.
-fn copy_if_kept(
-    region: &Region,
-    replace: &Replace,
-    found: &Found,
-    into: &mut [u8],
-    out: u32,
-) -> u32
+fn copy_if_kept(region: &Region, replace: &Replace, found: &Found, into: &mut [u8], out: u32) -> u32
     requires within { found.now.at + live_size (seen found.now) ≤ length region.now.bytes }
     requires few { length region.now.bytes ≤ 65536 }
-    requires room {
-        out + (if is_kept (region_lives region.now) (replaced_key replace.now) (seen found.now) then live_room (seen found.now) else 0) ≤ length into.old }
+    requires room { out + (if is_kept (region_lives region.now) (replaced_key replace.now) (seen found.now) then live_room (seen found.now) else 0) ≤ length into.old }
     requires near { out ≤ 131078 }
-    ensures offset {
-        result ≡ out + (if is_kept (region_lives region.now) (replaced_key replace.now) (seen found.now) then live_room (seen found.now) else 0) }
-    ensures bytes {
-        take result into.new
+    ensures offset { result ≡ out + (if is_kept (region_lives region.now) (replaced_key replace.now) (seen found.now) then live_room (seen found.now) else 0) }
+    ensures bytes { take result into.new
         ≡ take out into.old ++ (if is_kept (region_lives region.now) (replaced_key replace.now) (seen found.now) then copied region.now.bytes (seen found.now) else []) }
 {
     if !is_kept(region, replace, found) {

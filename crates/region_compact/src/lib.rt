@@ -8,6 +8,8 @@ mod laws;
 mod no_room;
 mod replace;
 mod sizes;
+#[cfg(test)]
+mod tests;
 
 pub use compaction::compact;
 pub use laws::{compactions_keep_the_map, copies_keep_their_headers, sizes_are_the_room};

@@ -1,9 +1,8 @@
 -- A header's fields are read from its 60 bytes alone, and State from the third of them.
-use Rattle.std.proofs.Common.{◌≡◌, ℕ, ◌+◌, ◌≤◌, ◌==◌, ◌&&◌, List, [], ◌∷◌, ◌++◌, length, take, drop, get_or, refl, sym, ap, ◌∙◌, arith, set}
-use Rattle.std.proofs.lemmas.List.{drop-take, get_or-take, take-append-le, take-take}
+use Rattle.std.proofs.Common.{◌≡◌, ℕ, ◌+◌, ◌≤◌, ◌==◌, ◌&&◌, List, [], ◌∷◌, length, take, drop, get_or, refl, sym, ap, ◌∙◌, arith, set}
+use Rattle.std.proofs.lemmas.List.{drop-take, get_or-take, take-take}
 use Rattle.byteorder.specs.Endian.{little_number}
 use Rattle.byteorder.specs.Numbers.{little_from-take}
-use Rattle.var_header.specs.declared.header.Header.{Header}
 use Rattle.var_header.specs.Header.{has_start_id, header_of}
 
 -- a number that is read of the first 60 bytes

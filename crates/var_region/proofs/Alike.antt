@@ -126,6 +126,7 @@ pub same_rest : (from : ℕ) (old new : List ℕ) → ((to : ℕ) → IsAlike fr
     → HasRecords Authenticated old at rs → HasRecords Authenticated new at rs
 same_rest from old new alike at [] low has = same_record from (at + 60) old new (alike (at + 60)) at low (omega arith) ∙ has
 same_rest from old new alike at (r ∷ rs) low has =
-    let next = next_onward old at r has.0 in
-    (same_record from (at + 60) old new (alike (at + 60)) at low (omega arith) ∙ has.0
-    , same_rest from old new alike (next_offset Authenticated r) rs (omega arith) has.1)
+    let next = next_onward old at r has.0 in (
+      same_record from (at + 60) old new (alike (at + 60)) at low (omega arith) ∙ has.0,
+      same_rest from old new alike (next_offset Authenticated r) rs (omega arith) has.1,
+    )

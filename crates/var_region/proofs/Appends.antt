@@ -69,7 +69,7 @@ pub new_lives : (non_volatile : Bool) (at : ℕ) (new : NewRecord) → IsNew new
     → drop at bytes ≡ new_bytes 0x3F new ++ rest → live_of Authenticated non_volatile bytes (new_record at 0x3F new) ≡ Some (new_live at new)
 new_lives nv at new is of bytes rest stands =
     let name = ap (λ found. name_in found (2 * length new.name.now + 2)) (name_stands at 0x3F new is (omega arith) bytes rest stands)
-        ∙ name_again new.name.now is.can.named is.values.units in
+    ∙ name_again new.name.now is.can.named is.values.units in
     live_from nv bytes (new_record at 0x3F new) new.name.now refl (of_store nv new of) name
     ∙ ap (λ found. Some (record (new_live at new) { variable = record (new_variable new) { bytes = found } })) (data_stands at 0x3F new is (omega arith) bytes rest stands)
 
@@ -93,7 +93,7 @@ added_live old first nv new fits of =
 pub AppendsAddOneLiveRecord-all : AppendsAddOneLiveRecord
 AppendsAddOneLiveRecord-all =
     each_region (λ region. (new : NewRecord) → FitsBehind region new → IsOfStore region.non_volatile new
-        → region_lives (appended 0x3F region new) ≡ region_lives region ++ (new_live (tail_offset region) new ∷ []))
+    → region_lives (appended 0x3F region new) ≡ region_lives region ++ (new_live (tail_offset region) new ∷ []))
     added_live
 
 pub AppendsPutTheirVariable-all : AppendsPutTheirVariable

@@ -80,12 +80,12 @@ module _ (old : List ℕ) (first : ℕ) (non_volatile : Bool) (new : NewRecord) 
     erased = erased_from old at (ap (is_clean old) (sym offset_is) ∙ fits.clean)
 
     pub begun_alike : IsAlike 0 at old bytes
-    begun_alike = alike_front at old bytes len (subst (λ n. take n bytes ≡ take n old) offset_is begun.outside.front)
+    begun_alike = alike_front at old bytes len (subst (λ n. take n bytes ≡ take n old) offset_is begun.outside.before)
 
     begun_erased : IsErasedFrom (at + new_size new) bytes
     begun_erased =
         alike_erased (at + new_size new) (at + new_size new) old bytes
-        (alike_back (at + new_size new) (length old) old bytes len (subst (λ n. drop (n + new_size new) bytes ≡ drop (n + new_size new) old) offset_is begun.outside.back))
+        (alike_back (at + new_size new) (length old) old bytes len (subst (λ n. drop (n + new_size new) bytes ≡ drop (n + new_size new) old) offset_is begun.outside.behind))
         (omega arith) (λ k low high. erased k (omega arith) high)
 
     -- the new record is read
@@ -122,5 +122,5 @@ pub BegunRecordsStand-all : BegunRecordsStand
 unfolding tail_offset region_records
 BegunRecordsStand-all =
     each_region (λ region. (new : NewRecord) (state : ℕ) (bytes : List ℕ) → FitsBehind region new → state < 0xFF → IsBegun region state new bytes
-        → HasOneMore region (new_record (tail_offset region) state new) (new_size new) bytes)
+    → HasOneMore region (new_record (tail_offset region) state new) (new_size new) bytes)
     (λ old first nv new state bytes fits small begun. begun_more old first nv new state bytes fits small begun)

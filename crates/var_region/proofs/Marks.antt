@@ -155,14 +155,14 @@ pub MarksChangeOneRecord-all : MarksChangeOneRecord
 unfolding region_records
 MarksChangeOneRecord-all =
     each_region (λ region. (before after : List Record) (r : Record) (state : ℕ) → region_records region ≡ before ++ r ∷ after → r.whole ≡ true
-        → state ≢ 0xFF → region_records (with_bytes region (state_set r.at state region.bytes)) ≡ before ++ in_state state r ∷ after)
+    → state ≢ 0xFF → region_records (with_bytes region (state_set r.at state region.bytes)) ≡ before ++ in_state state r ∷ after)
     (λ old first nv before after r state split whole apart. records_restated old first before after r state split whole apart)
 
 pub MarksRestateOneLiveRecord-all : MarksRestateOneLiveRecord
 unfolding region_lives region_records tail_offset is_tail_clean
 MarksRestateOneLiveRecord-all =
     each_region (λ region. (before after : List Live) (live : Live) (state : ℕ) → region_lives region ≡ before ++ live ∷ after → state ≢ 0xFF
-        → IsRestated region before after live state (state_set live.at state region.bytes))
+    → IsRestated region before after live state (state_set live.at state region.bytes))
     (λ old first nv before after live state split apart. by old first nv before after live state split apart)
   where
     by : (old : List ℕ) (first : ℕ) (nv : Bool) (fs bs : List Live) (live : Live) (state : ℕ)

@@ -58,8 +58,8 @@ module _ (region : Region) (new : NewRecord) (state : ℕ) (fits : FitsBehind re
       record {
         outside = record {
           len = length-placed at xs old room;
-          front = before_placed at xs old room;
-          back = ap (λ n. drop n (placed at xs old)) (sym far)
+          before = before_placed at xs old room;
+          behind = ap (λ n. drop n (placed at xs old)) (sym far)
               ∙ sym (drop-drop (new_size new - length xs) (at + length xs) (placed at xs old))
               ∙ ap (drop (new_size new - length xs)) (behind_placed at xs old room)
               ∙ drop-drop (new_size new - length xs) (at + length xs) old
@@ -91,9 +91,9 @@ module _ (region : Region) (new : NewRecord) (state : ℕ) (fits : FitsBehind re
         whole = set_placed at next (head ++ new_body new) (header_bytes h2 ++ new_body new) old low
             (omega (arith, length-append head (new_body new), length-append (header_bytes h2) (new_body new), same_length h next))
             (λ rest.
-                ap (λ bytes. set bytes 2 next) (append_assoc head (new_body new) rest)
-                ∙ header_set h next (new_body new ++ rest)
-                ∙ sym (append_assoc (header_bytes h2) (new_body new) rest));
+            ap (λ bytes. set bytes 2 next) (append_assoc head (new_body new) rest)
+            ∙ header_set h next (new_body new ++ rest)
+            ∙ sym (append_assoc (header_bytes h2) (new_body new) rest));
       }
 
 pub HeadersBegin-all : HeadersBegin
@@ -106,15 +106,15 @@ pub BodiesKeepTheHeader-all : BodiesKeepTheHeader
 BodiesKeepTheHeader-all region new state bytes other fits begun kept =
     let at = tail_offset region in
     let outside = begun.outside in
-    let alike = alike_front (at + 60) bytes other kept.len kept.front in
+    let alike = alike_front (at + 60) bytes other kept.len kept.before in
     record {
       outside = record {
         len = kept.len ∙ outside.len;
-        front = sym (take-take at (at + 60) other (omega arith))
-            ∙ ap (take at) kept.front
+        before = sym (take-take at (at + 60) other (omega arith))
+            ∙ ap (take at) kept.before
             ∙ take-take at (at + 60) bytes (omega arith)
-            ∙ outside.front;
-        back = kept.back ∙ outside.back;
+            ∙ outside.before;
+        behind = kept.behind ∙ outside.behind;
       };
       header = same_part 0 (at + 60) bytes other alike at 60 (omega arith) (omega arith) ∙ begun.header;
     }

@@ -13,6 +13,7 @@ use Rattle.var_types.specs.Live.{Live, data_bytes, live_in_state, live_named, li
 use Rattle.var_types.specs.Record.{Authenticated, Form, next_offset, record_at, records}
 use Rattle.var_types.specs.RecordState.{record_state}
 use Rattle.var_types.specs.Region.{Region, region_lives, region_records}
+use Rattle.var_region.proofs.Marked.{whole_stands}
 use Rattle.var_region.proofs.Read.{AreRead, next_onward, read_all, read_of}
 use Rattle.var_region.specs.WritingLaws.{LiveRecordsStandWhole, StandsWhole, state_byte}
 
@@ -132,12 +133,13 @@ found_in nv bytes (r ∷ rs) fs bs live e = by (live_of Authenticated nv bytes r
         let mine : l ≡ f = cc in
         let others : lives Authenticated nv bytes rs ≡ fs ++ live ∷ bs = cc in
         let w = rest fs others in
+        let first = ap (λ (found : Option Live). with_live found (lives Authenticated nv bytes w.before)) is in
         record {
           before = r ∷ w.before;
           r = w.r;
           after = w.after;
           split = ap (λ rs. r ∷ rs) w.split;
-          front = ap (λ found. with_live found (lives Authenticated nv bytes w.before)) is ∙ (λ i. mine i ∷ w.front i);
+          front = first ∙ (λ i. mine i ∷ w.front i);
           is = w.is;
           back = w.back;
         }
@@ -160,7 +162,7 @@ module _ (region : Region) where
           let room = w.room in
           record {
             low = omega arith;
-            whole = (r, (ap (record_at Authenticated region.bytes) place ∙ read.0, stored.whole));
+            whole = whole_stands region.bytes live.at r (ap (record_at Authenticated region.bytes) place ∙ read.0) stored.whole;
             room = omega arith;
             byte = ap (λ n. get_or region.bytes (n + 2) 0) place
                 ∙ sym (get_or-drop at region.bytes 2 0)
@@ -190,5 +192,5 @@ unfolding region_lives region_records
 LiveRecordsStandWhole-all =
     each_region (λ region. AllByRecursion (StandsWhole region) (region_lives region))
     (λ bytes first nv.
-        stand_whole (record { form = Authenticated; bytes = bytes; first = first; non_volatile = nv }) first (records Authenticated bytes first) (omega arith)
-        (read_all bytes first (records Authenticated bytes first) (has_all Authenticated bytes first)))
+    stand_whole (record { form = Authenticated; bytes = bytes; first = first; non_volatile = nv }) first (records Authenticated bytes first) (omega arith)
+    (read_all bytes first (records Authenticated bytes first) (has_all Authenticated bytes first)))

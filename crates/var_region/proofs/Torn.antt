@@ -34,11 +34,11 @@ module _ (old : List ℕ) (first : ℕ) (bytes : List ℕ) where
 
   module _ (clean : is_clean old tail ≡ true) (outside : IsOutsideKept tail (tail + 60) old bytes) where
     alike : IsAlike 0 tail old bytes
-    alike = alike_front tail old bytes outside.len outside.front
+    alike = alike_front tail old bytes outside.len outside.before
 
     erased : IsErasedFrom (tail + 60) bytes
     erased =
-        alike_erased (tail + 60) (tail + 60) old bytes (alike_back (tail + 60) (length old) old bytes outside.len outside.back) (omega arith)
+        alike_erased (tail + 60) (tail + 60) old bytes (alike_back (tail + 60) (length old) old bytes outside.len outside.behind) (omega arith)
         (λ k low high. erased_from old tail clean k (omega arith) high)
 
     -- the state byte of what is read at the tail
@@ -85,27 +85,27 @@ pub TornHeadersAreHeadersAtMost-all : TornHeadersAreHeadersAtMost
 unfolding region_records tail_offset is_tail_clean
 TornHeadersAreHeadersAtMost-all =
     each_region (λ region. (bytes : List ℕ) → is_tail_clean region ≡ true
-        → IsOutsideKept (tail_offset region) (tail_offset region + 60) region.bytes bytes
-        → get_or bytes (tail_offset region + 2) 0 ≡ 0xFF
-        → (region_records (with_bytes region bytes) ≡ region_records region)
-        ⊎ ((h : Header) × (region_records (with_bytes region bytes) ≡ region_records region ++ (record { at = tail_offset region; header = h; whole = false } ∷ []))))
+    → IsOutsideKept (tail_offset region) (tail_offset region + 60) region.bytes bytes
+    → get_or bytes (tail_offset region + 2) 0 ≡ 0xFF
+    → (region_records (with_bytes region bytes) ≡ region_records region)
+    ⊎ ((h : Header) × (region_records (with_bytes region bytes) ≡ region_records region ++ (record { at = tail_offset region; header = h; whole = false } ∷ []))))
     (λ old first nv bytes clean outside state. torn_records old first bytes clean outside state)
 
 pub TornHeadersChangeNoVariable-all : TornHeadersChangeNoVariable
 unfolding region_records region_lives tail_offset is_tail_clean
 TornHeadersChangeNoVariable-all =
     each_region (λ region. (bytes : List ℕ) → is_tail_clean region ≡ true
-        → IsOutsideKept (tail_offset region) (tail_offset region + 60) region.bytes bytes
-        → record_state (get_or bytes (tail_offset region + 2) 0) ≡ None
-        → region_lives (with_bytes region bytes) ≡ region_lives region)
+    → IsOutsideKept (tail_offset region) (tail_offset region + 60) region.bytes bytes
+    → record_state (get_or bytes (tail_offset region + 2) 0) ≡ None
+    → region_lives (with_bytes region bytes) ≡ region_lives region)
     (λ old first nv bytes clean outside state. torn_lives old first bytes clean outside nv state)
 
 pub TornBodiesChangeNoVariable-all : TornBodiesChangeNoVariable
 TornBodiesChangeNoVariable-all =
     each_region (λ region. (new : NewRecord) (state : ℕ) (bytes : List ℕ) → FitsBehind region new → state < 0xFF → record_state state ≡ None
-        → IsBegun region state new bytes → region_lives (with_bytes region bytes) ≡ region_lives region)
+    → IsBegun region state new bytes → region_lives (with_bytes region bytes) ≡ region_lives region)
     (λ old first nv new state bytes fits small none begun.
-        begun_lives old first nv new state bytes fits small begun
-        ∙ ap (λ found. region_lives (record { form = Authenticated; bytes = old; first = first; non_volatile = nv }) ++ with_live found [])
-        (live_none nv bytes (r old first nv new state bytes) none)
-        ∙ append-nil (region_lives (record { form = Authenticated; bytes = old; first = first; non_volatile = nv })))
+    begun_lives old first nv new state bytes fits small begun
+    ∙ ap (λ found. region_lives (record { form = Authenticated; bytes = old; first = first; non_volatile = nv }) ++ with_live found [])
+    (live_none nv bytes (r old first nv new state bytes) none)
+    ∙ append-nil (region_lives (record { form = Authenticated; bytes = old; first = first; non_volatile = nv })))

@@ -218,11 +218,11 @@ AddedPutTheirVariable-all ls live state none =
     same_entries key_cmp_total same_key (map_of (ls ++ live ∷ [])) (insert_entry key_cmp (map_of ls) live.key live.variable) p.ordered
     (sorted-insert_entry key_cmp_total live.key live.variable (map_of ls) q.ordered)
     (λ key.
-        p.holds key
-        ∙ ap variable_of (added_counts key ls live state none)
-        ∙ by key (is_of key live)
-        ∙ ap (cond (is_of key live) (Some live.variable)) (sym (q.holds key))
-        ∙ sym (lookup-insert_entry key_cmp_total live.key live.variable (map_of ls) key))
+    p.holds key
+    ∙ ap variable_of (added_counts key ls live state none)
+    ∙ by key (is_of key live)
+    ∙ ap (cond (is_of key live) (Some live.variable)) (sym (q.holds key))
+    ∙ sym (lookup-insert_entry key_cmp_total live.key live.variable (map_of ls) key))
   where
     by : (key : Key) (b : Bool) → variable_of (cond b (Some live) (chosen key ls)) ≡ cond b (Some live.variable) (variable_of (chosen key ls))
     by key true = refl
@@ -259,7 +259,7 @@ LastTakesTheVariable-all before after live none =
     same_entries key_cmp_total same_key (map_of (before ++ after)) (remove_entry test (map_of ls)) p.ordered
     (sorted-remove_entry key_cmp test (map_of ls) q.ordered)
     (λ key.
-        p.holds key
-        ∙ last_counts key before after live none
-        ∙ ap (cond (test key) None) (sym (q.holds key))
-        ∙ sym (lookup-remove_entry laws test (λ x y t. laws.congr live.key x y t) key (map_of ls) (IsDistinct-from_sorted key_cmp (keys_of (map_of ls)) q.ordered)))
+    p.holds key
+    ∙ last_counts key before after live none
+    ∙ ap (cond (test key) None) (sym (q.holds key))
+    ∙ sym (lookup-remove_entry laws test (λ x y t. laws.congr live.key x y t) key (map_of ls) (IsDistinct-from_sorted key_cmp (keys_of (map_of ls)) q.ordered)))

@@ -20,6 +20,7 @@ pub record IsOneBit (old new : ℕ) : Type 0 where
 abbrev pub state_steps : List (ℕ × ℕ)
 state_steps = (0xFF, 0x7F) ∷ (0x7F, 0x3F) ∷ (0x3F, 0x3E) ∷ (0x3E, 0x3C) ∷ (0x3F, 0x3D) ∷ []
 
+-- each of these steps is one bit
 abbrev pub StateStepsAreOneBit : Type 0
 StateStepsAreOneBit = AllByRecursion (λ step. IsOneBit step.0 step.1) state_steps
 

@@ -48,13 +48,14 @@ BodiesKeepTheHeader =
     (region : Region) (new : NewRecord) (state : ℕ) (bytes other : List ℕ) → FitsBehind region new → IsBegun region state new bytes
     → IsOutsideKept (tail_offset region + 60) (tail_offset region + new_size new) bytes other → IsBegun region state new other
 
--- the steps of an append leave its bytes: a header in another state is the header with that state byte, the name and data behind a header are the
--- record, and a record in another state is the record with that state byte
+-- how bytes at an offset go by steps: a header with another state byte is the header in that state, the name and data behind a header are the
+-- record, and a record with another state byte is the record in that state
 pub record AreSteps (at : ℕ) (new : NewRecord) (old : List ℕ) (state next : ℕ) : Type 0 where
   pub header : state_set at next (placed at (header_bytes (new_header state new)) old) ≡ placed at (header_bytes (new_header next new)) old
   pub body : placed (at + 60) (new_body new) (placed at (header_bytes (new_header state new)) old) ≡ placed at (new_bytes state new) old
   pub whole : state_set at next (placed at (new_bytes state new) old) ≡ placed at (new_bytes next new) old
 
+-- the steps of an append leave its bytes
 abbrev pub StepsLeaveTheirBytes : Type 0
 StepsLeaveTheirBytes =
     (region : Region) (new : NewRecord) (state next : ℕ) → FitsBehind region new → state < 2 ^ 8
@@ -119,6 +120,7 @@ pub record IsRestated (region : Region) (before after : List Live) (live : Live)
   pub offset : tail_offset (with_bytes region bytes) ≡ tail_offset region
   pub clean : is_tail_clean (with_bytes region bytes) ≡ is_tail_clean region
 
+-- another state byte of a live record restates it, or it is live no more
 abbrev pub MarksRestateOneLiveRecord : Type 0
 MarksRestateOneLiveRecord =
     (region : Region) (before after : List Live) (live : Live) (state : ℕ) → region_lives region ≡ before ++ live ∷ after → state ≢ 0xFF
@@ -136,5 +138,6 @@ pub record StandsWhole (region : Region) (live : Live) : Type 0 where
   pub room : live.at + 60 ≤ length region.bytes
   pub byte : slice_index region.bytes (live.at + 2) ≡ state_byte live.state
 
+-- each live record stands whole
 abbrev pub LiveRecordsStandWhole : Type 0
 LiveRecordsStandWhole = (region : Region) → AllByRecursion (StandsWhole region) (region_lives region)

@@ -1,5 +1,5 @@
 -- How the bytes of a region change: a record is added at the tail, or the state byte of one is replaced.
-use Rattle.std.specs.Prelude.{◌≡◌, ◌≤◌, ℕ, ◌+◌, ◌&&◌, Bool, true, List, length, nat_le, slice_set, Some}
+use Rattle.std.specs.Prelude.{◌≡◌, ◌≤◌, ℕ, ◌+◌, ◌&&◌, Bool, true, List, length, nat_le, slice_set, IsSomeAnd}
 use Rattle.var_types.specs.declared.record.Record.{Record}
 use Rattle.var_types.specs.Placed.{placed}
 use Rattle.var_types.specs.Record.{Authenticated, record_at}
@@ -35,4 +35,4 @@ in_state state r = record r { header = record r.header { state = state } }
 
 -- a whole record stands at an offset
 abbrev pub HasWholeRecord : List ℕ → ℕ → Type 0
-HasWholeRecord bytes at = (r : Record) × ((record_at Authenticated bytes at ≡ Some r) × (r.whole ≡ true))
+HasWholeRecord bytes at = IsSomeAnd (record_at Authenticated bytes at) (λ r. r.whole ≡ true)

@@ -18,6 +18,8 @@ mod tail;
 mod tests;
 mod walk;
 mod wanted;
+#[cfg(test)]
+mod writing_tests;
 
 pub use appending::{append, append_body, append_header};
 pub use find::counting;

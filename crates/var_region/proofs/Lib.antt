@@ -1,3 +1,17 @@
 pub mod Erased
 pub mod LentNames
 pub mod LiveRecords
+pub mod Read
+pub mod Alike
+pub mod WhichCounts
+pub mod StateBits
+pub mod Tails
+pub mod Stored
+pub mod Marks
+pub mod Names
+pub mod Begun
+pub mod Torn
+pub mod Steps
+pub mod Appends
+pub mod Marked
+pub mod NewRecords

@@ -1,3 +1,4 @@
+use Rattle.std.specs.Prelude.{ℕ, ◌==◌, Bool, false, Option, Some, None}
 use Rattle.var_types.specs.declared.key.Key.{Key}
 use Rattle.var_types.specs.declared.variable.Variable.{Variable}
 use Rattle.var_types.specs.Live.{Live, live_entry, units_in}
@@ -23,3 +24,8 @@ seen_variable f = (seen f).variable
 -- the entry of the map that a live record that was found is
 abbrev pub seen_entry : Found → Key × Variable
 seen_entry f = live_entry (seen f)
+
+-- whether a live record, where there is one, stands at an offset
+abbrev pub is_here : ℕ → Option Live → Bool
+is_here at None = false
+is_here at (Some live) = live.at == at

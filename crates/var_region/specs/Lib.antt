@@ -4,3 +4,7 @@ pub mod Names
 pub mod Found
 pub mod Wanted
 pub mod Lives
+pub mod NewRecord
+pub mod Written
+pub mod WritingLaws
+pub mod StateSteps

@@ -7,8 +7,9 @@ ghost use Rattle.var_types.specs.Key.{key_cmp, key_of};
 ghost use Rattle.var_types.specs.Layout.{longest_region};
 ghost use Rattle.var_types.specs.Record.{Authenticated};
 ghost use Rattle.var_types.specs.Region.{entry_above, is_tail_clean, region_lives, region_map, region_records, tail_offset};
-ghost use Rattle.var_region.specs.Found.{seen, seen_entry, seen_key, seen_variable};
+ghost use Rattle.var_region.specs.Found.{is_here, seen, seen_entry, seen_key, seen_variable};
 ghost use Rattle.var_region.specs.Wanted.{bound_of};
+ghost use Rattle.var_region.specs.Written.{fits_behind};
 
 use crate::above::{above, bound_of};
 use crate::find::search;
@@ -55,6 +56,14 @@ impl<'a> Region<'a> {
         }
     }
 
+    /// The region's bytes, those before its first record too.
+    pub fn bytes(&self) -> &'a [u8]
+        ensures bytes { result.now ≡ self.now.bytes }
+        ensures few { length result.now ≤ longest_region }
+    {
+        self.bytes
+    }
+
     /// A walk over the records.
     #[tactic(auto, unfolding(var_types::specs::Region::region_records))]
     pub fn walk(&self) -> Walk<'a>
@@ -69,8 +78,9 @@ impl<'a> Region<'a> {
     /// A walk over the records that are variables', ADDED or in transition to deleted.
     #[tactic(auto, unfolding(var_types::specs::Region::region_records, var_types::specs::Region::region_lives, crate::specs::Lives::lives_at))]
     pub fn lives(&self) -> Lives<'a>
-        ensures is { result ≡ region_lives self.now }
+        ensures lives { result ≡ region_lives self.now }
         ensures few { length self.now.bytes ≤ longest_region }
+        ensures within { self.now.first ≤ length self.now.bytes }
     {
         Lives {
             bytes: self.bytes,
@@ -89,6 +99,14 @@ impl<'a> Region<'a> {
         tail_of(self.bytes, self.first)
     }
 
+    /// Whether so many bytes fit behind the records: the tail is clean, and has the room. A size is in bytes, without the gap behind a record.
+    pub fn fits(&self, size: u32) -> bool
+        ensures { result ≡ fits_behind self.now size }
+    {
+        let tail = self.tail();
+        tail.clean && u64::from(tail.at) + u64::from(size) <= self.bytes.len() as u64
+    }
+
     /// The record that counts for a key: its first ADDED one, else its last in transition to deleted.
     #[tactic(auto, using(crate::proofs::LiveRecords::found_in_map))]
     pub fn find(&self, guid: &Guid, name: &[u16]) -> Option<Found<'a>>
@@ -97,6 +115,16 @@ impl<'a> Region<'a> {
         ensures payload { IfSome result (λ f. length f.payload.now ≤ longest_region) }
     {
         search(self, &Wanted::new(guid, name))
+    }
+
+    /// Whether a live record that was found in the region is the one that counts for its key.
+    pub fn counts(&self, found: &Found) -> bool
+        ensures { result ≡ is_here found.now.at (chosen (seen_key found.now) (region_lives self.now)) }
+    {
+        match search(self, &Wanted::of(found)) {
+            Some(counted) => counted.at == found.at,
+            None => false,
+        }
     }
 
     /// The record that counts for the least key that callers see: strictly above a key, or of all where the name is empty.

@@ -14,7 +14,7 @@ const FIRST: u32 = 28;
 // A record of a region: its state, its attributes, the first byte of its GUID (the others are 0), its name's bytes with the NUL, and its data.
 struct Part(u8, u32, u8, &'static [u8], &'static [u8]);
 
-fn guid(first: u8) -> Guid {
+pub(crate) fn guid(first: u8) -> Guid {
     let mut bytes = [0; 16];
     bytes[0] = first;
     Guid { bytes }
@@ -57,7 +57,7 @@ fn region_bytes(alloc: Global, parts: &[Part]) -> Result<Vec<u8>, AllocError> {
     Ok(bytes)
 }
 
-fn over(bytes: &[u8], first: u32, non_volatile: bool) -> Option<Region> {
+pub(crate) fn over(bytes: &[u8], first: u32, non_volatile: bool) -> Option<Region> {
     if first as usize <= bytes.len() && bytes.len() <= 65536 {
         Some(Region::over(bytes, first, non_volatile))
     } else {
@@ -374,14 +374,14 @@ const WALKS: [Walked; 9] = [
     },
 ];
 
-fn put(into: &mut [u8], at: usize, bytes: &[u8]) {
+pub(crate) fn put(into: &mut [u8], at: usize, bytes: &[u8]) {
     for (old, new) in into.iter_mut().skip(at).zip(bytes) {
         *old = *new;
     }
 }
 
 // The offsets of a region's records, and whether each is whole.
-fn offsets(alloc: Global, region: &Region) -> Result<Vec<(u32, bool)>, AllocError> {
+pub(crate) fn offsets(alloc: Global, region: &Region) -> Result<Vec<(u32, bool)>, AllocError> {
     region
         .walk()
         .map(|record| (record.at, record.whole))

@@ -1,4 +1,5 @@
 ghost use Rattle.std.specs.Prelude.{◌≡◌};
+ghost use Rattle.std.specs.BTreeMap.{is_at};
 ghost use Rattle.var_types.specs.Key.{key_cmp, key_of};
 ghost use Rattle.var_region.specs.Found.{seen_key};
 ghost use Rattle.var_region.specs.Wanted.{wanted_key};
@@ -44,4 +45,11 @@ impl<'k> Wanted<'k> {
             .cmp(&found.guid)
             .then(order_name(&self.name, found.name))
     }
+}
+
+/// Whether a record that was found has the key of a GUID and a name.
+pub fn has_key(found: &Found, guid: &Guid, name: &[u16]) -> bool
+    ensures { result ≡ is_at (key_cmp (key_of guid.now name.now)) (seen_key found.now) }
+{
+    Wanted::new(guid, name).order(found).is_eq()
 }

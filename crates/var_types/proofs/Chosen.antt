@@ -28,7 +28,7 @@ counting_later None later h = refl
 counting_later (Some l) later h = ap (λ t. cond t l later) h
 
 -- what a pass from no ADDED record finds is the first ADDED record of the key, else its last in transition, else what was held
-chosen_from-is : (key : Key) (held : Option Live) (ls : List Live) → is_settled held ≡ false
+pub chosen_from-is : (key : Key) (held : Option Live) (ls : List Live) → is_settled held ≡ false
     → chosen_from key held ls ≡ option_or (option_or (find (is_added key) ls) (find (is_in_transition key) (reverse ls))) held
 chosen_from-is key held [] h = refl
 chosen_from-is key held (live ∷ ls) h =
@@ -77,7 +77,7 @@ chosen_in_one_pass key ls =
     or_none (Some live) = refl
 
 -- a pass over records of other keys finds what it held
-chosen_from_others : (key : Key) (held : Option Live) (ls : List Live) → list_any (is_of key) ls ≡ false → chosen_from key held ls ≡ held
+pub chosen_from_others : (key : Key) (held : Option Live) (ls : List Live) → list_any (is_of key) ls ≡ false → chosen_from key held ls ≡ held
 chosen_from_others key held [] h = refl
 chosen_from_others key held (live ∷ ls) h = by (is_of key live) h (chosen_from_others key held ls)
   where

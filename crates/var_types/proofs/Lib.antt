@@ -16,6 +16,8 @@ pub mod Walks
 pub mod Pieces
 pub mod Guids
 pub mod Records
+pub mod Placed
+pub mod Sums
 pub mod Entries
 pub mod Chosen
 pub mod Bounds

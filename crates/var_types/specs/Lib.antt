@@ -26,6 +26,7 @@ pub mod Laws
 pub mod Walk
 pub mod Record
 pub mod RecordState
+pub mod Placed
 pub mod Live
 pub mod Chosen
 pub mod Least

@@ -1,0 +1,9 @@
+pub mod StoredSizes
+pub mod Kept
+pub mod Added
+pub mod Pieces
+pub mod Copied
+pub mod Distinct
+pub mod Orders
+pub mod MapAfter
+pub mod Needed

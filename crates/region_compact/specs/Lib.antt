@@ -1,0 +1,3 @@
+pub mod Replace
+pub mod Compacted
+pub mod Laws

@@ -1,0 +1,22 @@
+//! Laws of compacted regions: each is the contract of a function that does nothing.
+ghost use Rattle.region_compact.specs.Laws.{CompactionsHaveTheirSize, CompactionsKeepTheMap, CompactionsKeepTheOrder, CompactionsLeaveOrder};
+ghost use Rattle.region_compact.specs.Laws.{CopiesKeepTheirHeaders, SizesAreTheRoom, SizesAreTheRoomNeeded};
+
+/// A compacted region has the map of before with the replacement, each key's variable once and ADDED, in the order of its record, and a clean tail.
+pub fn compactions_keep_the_map()
+    ensures map { CompactionsKeepTheMap }
+    ensures records { CompactionsKeepTheOrder }
+    ensures clean { CompactionsLeaveOrder }
+{}
+
+/// A record that is copied keeps its header behind the first four bytes.
+pub fn copies_keep_their_headers()
+    ensures { CopiesKeepTheirHeaders }
+{}
+
+/// A compacted region's size is the room of its variables, which the set rule counts.
+pub fn sizes_are_the_room()
+    ensures bytes { CompactionsHaveTheirSize }
+    ensures room { SizesAreTheRoom }
+    ensures needed { SizesAreTheRoomNeeded }
+{}

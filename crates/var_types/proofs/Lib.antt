@@ -19,3 +19,5 @@ pub mod FirstKeys
 pub mod FirstShown
 pub mod Passing
 pub mod Least
+pub mod WorkAreas
+pub mod Parts

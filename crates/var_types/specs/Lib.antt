@@ -22,5 +22,7 @@ pub mod Live
 pub mod Chosen
 pub mod Least
 pub mod Region
+pub mod WorkArea
 pub mod Kept
+pub mod ImageLaws
 pub mod Texts

@@ -5,6 +5,7 @@ ghost use Rattle.var_types.specs.Key.{key_cmp};
 ghost use Rattle.var_types.specs.Laws.{RightRepliesFit, SteppedRepliesFit, SteppedSessionsAreLegal, LegalSessionsGrow, ChangesLeaveTheState};
 ghost use Rattle.var_types.specs.Laws.{SameChangesLeaveTheSameState, GuidsReadBack};
 ghost use Rattle.var_types.specs.Laws.{BytesHaveRecords, BytesHaveOneList, MapsStandInKeyOrder, MapsHoldWhatCounts, WhatCountsDecidesTheMap};
+ghost use Rattle.var_types.specs.ImageLaws.{BlankSparesHoldNothing, CleanAreasAreClean, GapsNeverMatter, NoOthersAreClean, NoOthersArePending, PendingAreasArePending};
 ghost use Rattle.var_types.specs.State.{start};
 ghost use Rattle.var_types.specs.Walk.{IsSound, ChangesKeepSoundness, WalksAnswerEachKeyOnce};
 
@@ -62,4 +63,18 @@ pub fn maps_hold_what_counts()
 /// Keys compare as the definition of their order says.
 pub fn keys_are_ordered_as_defined()
     ensures { (a b : Key) → ⟦<crate::Key as Ord>⟧.cmp a b ≡ key_cmp a b }
+{}
+
+/// The bytes of a work area that is Clean or Pending are known by what it says, and say it; with any others it is Unclean.
+pub fn work_areas_are_known_by_their_state()
+    ensures clean { CleanAreasAreClean }
+    ensures clean_only { NoOthersAreClean }
+    ensures pending { PendingAreasArePending }
+    ensures pending_only { NoOthersArePending }
+{}
+
+/// What an image keeps depends on its volume, its work area and its spare alone, and on the volume alone where the spare is blank.
+pub fn contents_depend_on_their_parts()
+    ensures gap { GapsNeverMatter }
+    ensures blank { BlankSparesHoldNothing }
 {}

@@ -1,5 +1,5 @@
 -- The parts of an image, and what a change of one of them leaves.
-use Rattle.std.proofs.Common.{◌≡◌, inl, ℕ, ◌+◌, ◌-◌, ◌≤◌, Bool, true, false, List, ◌++◌, length, take, drop, refl, sym, ap, ◌∙◌, arith, append_assoc}
+use Rattle.std.proofs.Common.{◌≡◌, inl, ℕ, ◌+◌, ◌-◌, ◌≤◌, Bool, true, false, List, ◌++◌, length, take, drop, refl, sym, ap, ◌∙◌, arith, append_assoc, length-drop}
 use Rattle.std.proofs.lemmas.List.{drop-drop, drop-take, drop_at, length-take-le, take-append-drop, take-take, take_at}
 use Rattle.var_types.specs.declared.work_state.WorkState.{WorkState}
 use Rattle.var_types.specs.declared.work_state.WorkState.TheVariants.{Clean, Pending, Unclean}
@@ -168,6 +168,11 @@ unfolding work_area spare
 image_framed image =
     sym (take-append-drop 61440 image)
     ∙ ap (λ rest. take 61440 image ++ rest) (sym (take-append-drop 4096 (drop 61440 image)) ∙ ap (λ rest. take 4096 (drop 61440 image) ++ rest) (drop-drop 4096 61440 image))
+
+-- its work area is a block
+pub work_size : (image : List ℕ) → length image ≡ 131072 → length (work_area image) ≡ 4096
+unfolding work_area
+work_size image size = length-take-le 4096 (drop 61440 image) (omega (arith, size, length-drop 61440 image))
 
 -- the parts of an image that is written so
 module _ (front area back : List ℕ) (early : length front ≡ 61440) (size : length area ≡ 4096) where

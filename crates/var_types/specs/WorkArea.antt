@@ -1,17 +1,12 @@
 -- The work area of fault-tolerant writes: what its bytes say, and which bytes say so (this project's own, as the whole of its layout).
-use Rattle.std.specs.Prelude.{ℕ, zero, suc, ◌-◌, ◌*◌, ◌==◌, ◌&&◌, Bool, List, [], ◌∷◌, ◌++◌, codes, drop, take, replicate, if◌then◌else◌}
-use Rattle.std.specs.List.{list_all}
+use Rattle.std.specs.Prelude.{◌<◌, ◌≤◌, ℕ, zero, suc, ◌-◌, ◌*◌, ◌==◌, ◌&&◌, Bool, List, [], ◌∷◌, ◌++◌, codes, drop, replicate, if◌then◌else◌}
+use Rattle.std.specs.List.{list_all, starts_with}
 use Rattle.var_types.specs.declared.work_state.WorkState.{WorkState}
 use Rattle.var_types.specs.declared.work_state.WorkState.TheVariants.{Clean, Pending, Unclean}
-use lib.Pointwise.{pointwise}
 
 -- whether all bytes are erased (this project's own)
 abbrev pub is_blank : List ℕ → Bool
 is_blank bytes = list_all (λ b. b == 0xFF) bytes
-
--- whether the first 16 bytes are these (this project's own)
-abbrev pub begins_with : List ℕ → List ℕ → Bool
-begins_with mark bytes = pointwise ◌==◌ (take 16 bytes) mark
 
 -- the header of a work area that is made: its signature and its gate, which is open (this project's own)
 abbrev pub work_mark : List ℕ
@@ -30,16 +25,22 @@ half_slot =
 -- what the slots behind those that are done say: all are closed, or the first is pending and all others are closed (this project's own)
 abbrev pub state_behind : ℕ → List ℕ → WorkState
 state_behind slots rest =
-    if is_blank rest then Clean slots else if begins_with half_slot rest && is_blank (drop 16 rest) then Pending slots else Unclean
+    if is_blank rest then Clean slots else if starts_with ◌==◌ rest half_slot && is_blank (drop 16 rest) then Pending slots else Unclean
 
 -- what the slots say of which so many are left, behind so many that are done (this project's own)
 unfoldable pub state_from : ℕ → ℕ → List ℕ → WorkState
 state_from zero slots rest = state_behind slots rest
-state_from (suc left) slots rest = if begins_with done_slot rest then state_from left (suc slots) (drop 16 rest) else state_behind slots rest
+state_from (suc left) slots rest = if starts_with ◌==◌ rest done_slot then state_from left (suc slots) (drop 16 rest) else state_behind slots rest
 
 -- what a work area says: its header, and 255 slots behind it (this project's own)
 unfoldable pub work_state : List ℕ → WorkState
-work_state bytes = if begins_with work_mark bytes then state_from 255 0 (drop 16 bytes) else Unclean
+work_state bytes = if starts_with ◌==◌ bytes work_mark then state_from 255 0 (drop 16 bytes) else Unclean
+
+-- a state of 255 slots (this project's own)
+abbrev pub HasFewSlots : WorkState → Type 0
+HasFewSlots (Clean slots) = slots ≤ 255
+HasFewSlots (Pending slot) = slot < 255
+HasFewSlots Unclean = Unit {0}
 
 -- so many slots that are done (this project's own)
 abbrev pub done_slots : ℕ → List ℕ

@@ -3,6 +3,7 @@
 
 mod answered;
 pub mod attributes;
+mod blank;
 mod bytes;
 mod call;
 mod guid;
@@ -29,6 +30,7 @@ mod verdict;
 mod work_state;
 
 pub use answered::{Answered, Route};
+pub use blank::is_blank;
 pub use bytes::Bytes;
 pub use call::{Call, GetCall, NextCall, SetCall};
 pub use guid::{Guid, NotAGuid};

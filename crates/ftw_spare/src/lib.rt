@@ -1,13 +1,13 @@
-// A library with one function.
+//! The spare of fault-tolerant writes: what is written to it, and what is copied from it to the volume. None of these steps takes memory.
 #![tactic(auto)]
 
-ghost use Rattle.std.specs.Prelude.{◌≡◌};
-ghost use Rattle.ftw_spare.specs.Echo.{echo_of};
+mod blank_spare;
+mod blocks;
+mod copying;
+mod layout;
+#[cfg(test)]
+mod tests;
 
-// The `ensures` clause is the contract: what `echo` returns is `echo_of` of its argument, a definition
-// in `specs/Echo.antt`, which a caller's clause can cite too.
-pub fn echo(x: usize) -> usize
-    ensures { result ≡ echo_of x }
-{
-    x
-}
+pub use blank_spare::blank;
+pub use copying::{copy_to_dest, erase_spare, fill_spare};
+pub use layout::SPARE_OFFSET;

@@ -1,16 +1,9 @@
 -- What the steps of a work area leave.
 use Rattle.std.specs.Prelude.{◌≡◌, ℕ, List}
 use Rattle.var_types.specs.declared.work_state.WorkState.{WorkState}
-use Rattle.var_types.specs.declared.work_state.WorkState.TheVariants.{Clean, Pending, Unclean}
 use Rattle.var_types.specs.Kept.{IsContentOr, IsOutsideKept, spare_volume, work_area}
 use Rattle.var_types.specs.Layout.{spare_offset, work_area_offset}
 use Rattle.var_types.specs.WorkArea.{work_state}
-
--- no write is pending (this project's own)
-abbrev pub IsClean : WorkState → Type 0
-IsClean (Clean slots) = Unit {0}
-IsClean (Pending slot) = ⊥
-IsClean Unclean = ⊥
 
 -- an image whose work area says this, and all of whose other bytes are those of another (this project's own)
 pub record IsWorkLeft (state : WorkState) (image left : List ℕ) : Type 0 where

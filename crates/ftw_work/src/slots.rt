@@ -1,5 +1,5 @@
 ghost use Rattle.std.specs.Prelude.{◌≡◌, ◌<◌, ◌≤◌, IfErr, IfOk};
-ghost use Rattle.ftw_work.specs.Work.{IsClean};
+ghost use Rattle.var_types.specs.WorkArea.{IsClean};
 ghost use Rattle.var_types.specs.declared.work_state.WorkState.TheVariants.{Clean};
 
 use crate::layout::SLOTS;

@@ -6,7 +6,7 @@ use Rattle.std.proofs.lemmas.Bool.{and_parts, eqb-true}
 use Rattle.std.proofs.lemmas.List.{length-replicate, take-append-drop}
 use Rattle.var_types.specs.declared.work_state.WorkState.{WorkState}
 use Rattle.var_types.specs.declared.work_state.WorkState.TheVariants.{Clean, Pending, Unclean}
-use Rattle.var_types.specs.WorkArea.{HasFewSlots, clean_area, done_slot, done_slots, half_slot, is_blank, pending_area, state_behind, state_from, work_mark, work_state}
+use Rattle.var_types.specs.WorkArea.{HasFewSlots, IsClean, IsPending, clean_area, done_slot, done_slots, half_slot, is_blank, pending_area, state_behind, state_from, work_mark, work_state}
 use lib.Pointwise.{pointwise}
 
 -- bytes that are found equal are equal
@@ -272,3 +272,14 @@ all_slots done rest e = ap (λ d. state_from (255 - d) d rest) e
 pub marked_state : (bytes : List ℕ) → starts_with ◌==◌ bytes work_mark ≡ true → work_state bytes ≡ state_from 255 0 (drop 16 bytes)
 unfolding work_state
 marked_state bytes e = ap (λ b. if b then state_from 255 0 (drop 16 bytes) else Unclean) e
+
+-- the slots of a state in which no write is pending, and the slot of one in which one is
+pub slots_of_clean : (state : WorkState) → IsClean state → (slots : ℕ) × (state ≡ Clean slots)
+slots_of_clean (Clean slots) is = (slots, refl)
+slots_of_clean (Pending slot) is = absurd is
+slots_of_clean Unclean is = absurd is
+
+pub slot_of_pending : (state : WorkState) → IsPending state → (slot : ℕ) × (state ≡ Pending slot)
+slot_of_pending (Clean slots) is = absurd is
+slot_of_pending (Pending slot) is = (slot, refl)
+slot_of_pending Unclean is = absurd is

@@ -36,6 +36,18 @@ state_from (suc left) slots rest = if starts_with ◌==◌ rest done_slot then s
 unfoldable pub work_state : List ℕ → WorkState
 work_state bytes = if starts_with ◌==◌ bytes work_mark then state_from 255 0 (drop 16 bytes) else Unclean
 
+-- no write is pending (this project's own)
+abbrev pub IsClean : WorkState → Type 0
+IsClean (Clean slots) = Unit {0}
+IsClean (Pending slot) = ⊥
+IsClean Unclean = ⊥
+
+-- a write is pending (this project's own)
+abbrev pub IsPending : WorkState → Type 0
+IsPending (Clean slots) = ⊥
+IsPending (Pending slot) = Unit {0}
+IsPending Unclean = ⊥
+
 -- a state of 255 slots (this project's own)
 abbrev pub HasFewSlots : WorkState → Type 0
 HasFewSlots (Clean slots) = slots ≤ 255

@@ -1,13 +1,17 @@
-// A library with one function.
+//! Fault-tolerant writes as a whole: the mount that finishes one or gives it up, what an image keeps, and the write of a volume's content. None
+//! of them takes memory.
 #![tactic(auto)]
 
-ghost use Rattle.std.specs.Prelude.{◌≡◌};
-ghost use Rattle.ftw_mount.specs.Echo.{echo_of};
+mod kept;
+mod looking;
+mod mount_fault;
+mod mounting;
+#[cfg(test)]
+mod tests;
+mod writing;
 
-// The `ensures` clause is the contract: what `echo` returns is `echo_of` of its argument, a definition
-// in `specs/Echo.antt`, which a caller's clause can cite too.
-pub fn echo(x: usize) -> usize
-    ensures { result ≡ echo_of x }
-{
-    x
-}
+pub use kept::Kept;
+pub use looking::read_kept;
+pub use mount_fault::MountFault;
+pub use mounting::mount;
+pub use writing::{free_slot, write_volume};

@@ -7,6 +7,7 @@ use Rattle.std.proofs.lemmas.List.Folds.{list_all-append}
 use Rattle.flash_dev.specs.Moments.{Stays}
 use Rattle.flash_dev.specs.Rules.{IsKept}
 use Rattle.flash_dev.proofs.Moments.{stays_more}
+use Rattle.ftw_work.proofs.Told.{told_more, told_same}
 use Rattle.var_types.specs.Kept.{spare}
 use Rattle.var_types.specs.WorkArea.{is_blank}
 
@@ -73,6 +74,18 @@ module _ {F : Type 0} {moment : F → ℕ} {left_since : F → ℕ → List ℕ 
       → Stays IsKept moment left_since holds old new
   kept_moments old mid new run next = stays_more IsKept IsKept old mid new run next (λ image cells left told now first second. second ∙ first)
 
--- what is told stays where what tells it does
-pub told_same : (P : List ℕ → Type 0) (old now : Option (List ℕ)) → now ≡ old → IfSome now P → IfSome old P
-told_same P old now same is = subst (λ told. IfSome told P) same is
+-- a block that was read
+pub block_read : (block at n : ℕ) (buffer : List ℕ) (b : Bool) (told : Option (List ℕ)) → at ≡ 4096 * block → n ≡ 4096
+    → IfSome told (λ image. buffer ≡ take n (drop at image)) → b ≡ is_blank buffer
+    → IfSome told (λ image. b ≡ is_blank (take 4096 (drop (4096 * block) image)))
+block_read block at n buffer b told place size read is =
+    told_more (λ image. buffer ≡ take n (drop at image)) (λ image. b ≡ is_blank (take 4096 (drop (4096 * block) image))) told read
+    (λ image e. is ∙ ap is_blank (e ∙ ap (λ k. take k (drop at image)) size ∙ ap (λ k. take 4096 (drop k image)) place))
+
+-- what was found of a block, by what was told at first
+pub block_told : (block : ℕ) (b is : Bool) (told now : Option (List ℕ)) → b ≡ is → now ≡ told
+    → IfSome now (λ image. b ≡ is_blank (take 4096 (drop (4096 * block) image)))
+    → IfSome told (λ image. is ≡ is_blank (take 4096 (drop (4096 * block) image)))
+block_told block b is told now found same blank =
+    subst (λ (t : Bool). IfSome told (λ image. t ≡ is_blank (take 4096 (drop (4096 * block) image)))) found
+    (told_same (λ image. b ≡ is_blank (take 4096 (drop (4096 * block) image))) told now same blank)

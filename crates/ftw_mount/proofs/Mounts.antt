@@ -2,12 +2,13 @@
 use Rattle.std.proofs.Common.{◌≡◌, inl, inr, ⊎_elim, ℕ, ◌+◌, Bool, true, false, List, drop, take, Option, IfSome, arith, refl, sym, ap, ◌∙◌, subst}
 use Rattle.flash_dev.specs.Moments.{Stays}
 use Rattle.flash_dev.specs.Rules.{IsKept, Leaves}
-use Rattle.flash_dev.proofs.Calls.{told_at}
+use Rattle.flash_dev.proofs.Calls.{leaves_then, told_at}
 use Rattle.flash_dev.proofs.Moments.{stays_weaken}
 use Rattle.ftw_mount.specs.declared.kept.Kept.{Kept}
-use Rattle.ftw_mount.specs.Mount.{Describes, IsIdle, IsMountLeft, IsWritePending}
+use Rattle.ftw_mount.specs.Mount.{Describes, IsIdle, IsMountLeft, IsMounted, IsWritePending}
 use Rattle.ftw_spare.specs.Spare.{IsCopied}
-use Rattle.ftw_work.proofs.Told.{told_after, told_both, told_more}
+use Rattle.ftw_work.specs.Work.{IsWorkLeft}
+use Rattle.ftw_work.proofs.Told.{told_after, told_both, told_more, told_same}
 use Rattle.var_types.specs.declared.work_state.WorkState.{WorkState}
 use Rattle.var_types.specs.declared.work_state.WorkState.TheVariants.{Clean, Pending, Unclean}
 use Rattle.var_types.specs.Kept.{IsContentKept, IsForeign, spare, spare_volume, volume, work_area}
@@ -35,6 +36,10 @@ module _ {F : Type 0} {moment : F → ℕ} {left_since : F → ℕ → List ℕ 
       stays_weaken IsContentKept IsMountLeft old new run
       (λ image left told is.
       record { kept = is; idle = λ idle. absurd (told_at (λ list. IsIdle list → ⊥) (holds old) image busy told idle) })
+
+  -- the moments of reads are those of a mount
+  pub read_moments : (old new : F) → Stays IsKept moment left_since holds old new → Stays IsMountLeft moment left_since holds old new
+  read_moments old new run = stays_weaken IsKept IsMountLeft old new run (λ image left told is. subst (IsMountLeft image) (sym is) (mount_stays image))
 
 -- what is told of an image at which something is done
 pub unmade_told : (told : Option (List ℕ)) → IfSome told (λ image. is_blank (spare image) ≡ true)
@@ -76,6 +81,14 @@ now_equal bytes old new same copied =
     told_after (λ image. bytes ≡ spare_volume image) (IsCopied bytes) (λ image. volume image ≡ spare_volume image) old new same copied
     (λ image left e c. c.copied ∙ e ∙ sym (spare_volume_same image left (spare_behind 0 57344 image left (omega arith) c.outside)))
 
+-- the destination gate was opened then
+pub finished : (bytes : List ℕ) (slot : ℕ) (old now mid new : Option (List ℕ)) → now ≡ old → Leaves (IsCopied bytes) now mid
+    → Leaves (IsWorkLeft (Clean (slot + 1))) mid new → Leaves (IsMounted (slot + 1)) old new
+finished bytes slot old now mid new same copied opened =
+    subst (λ told. Leaves (IsMounted (slot + 1)) told new) same
+    (leaves_then (IsCopied bytes) (IsWorkLeft (Clean (slot + 1))) (IsMounted (slot + 1)) now mid new copied opened
+    (λ image cells left told at c w. w.says))
+
 -- what an image was found to be
 pub found_clean : (kept : Kept) (slots : ℕ) (told : Option (List ℕ)) → kept.state ≡ Clean slots → IfSome told (Describes kept)
     → IfSome told (λ image. work_state (work_area image) ≡ Clean slots)
@@ -101,3 +114,7 @@ pub never_foreign : (X : Type 0) (kept : Kept) (told : Option (List ℕ)) → ((
 never_foreign X kept told other described =
     told_more (Describes kept) (λ image. IsForeign image → X) told described
     (λ image d foreign. absurd (other (d.state ∙ foreign.1, d.blank ∙ foreign.0)))
+
+-- a fact of an image that was read is one of what is told now
+pub told_now : (P : List ℕ → Type 0) (old now : Option (List ℕ)) → now ≡ old → IfSome old P → IfSome now P
+told_now P old now same is = told_same P now old (sym same) is

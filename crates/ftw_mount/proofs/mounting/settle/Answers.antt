@@ -1,0 +1,1 @@
+use Rattle.ftw_mount.proofs.mounting.settle.Goals as goal

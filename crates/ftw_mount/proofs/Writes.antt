@@ -148,6 +148,13 @@ pub told_further : (old mid new : Option (List ℕ)) → Leaves (λ _ _. Unit {0
 told_further old mid new first second =
     leaves_then (λ _ _. Unit {0}) (λ _ _. Unit {0}) (λ _ _. Unit {0}) old mid new first second (λ image cells left told now a b. tt)
 
+-- a write was done behind other calls
+pub written_after : (bytes : List ℕ) (slots : ℕ) (old mid new : Option (List ℕ)) → Leaves (λ _ _. Unit {0}) old mid → Leaves (IsWritten bytes slots) mid new
+    → Leaves (IsWritten bytes slots) old new
+written_after bytes slots old mid new some is =
+    leaves_then (λ _ _. Unit {0}) (IsWritten bytes slots) (IsWritten bytes slots) old mid new some is
+    (λ image cells left told now u w. record { says = w.says; volume = w.volume; spare = w.spare })
+
 -- any fact of nothing holds
 any_told : (told : Option (List ℕ)) → IfSome told (λ _. Unit {0})
 any_told None = tt

@@ -1,9 +1,13 @@
 -- What is read of an image, and what a mount and a write leave.
-use Rattle.std.specs.Prelude.{◌≡◌, ◌⊎◌, ℕ, false, List, ◌++◌, replicate}
+use Rattle.std.specs.Prelude.{◌≡◌, ◌⊎◌, ◌==◌, ℕ, false, List, ◌++◌, length, take, replicate, nat_lt, if◌then◌else◌, Result, Err}
+use Rattle.flash_dev.specs.declared.geometry.Geometry.{Geometry}
+use Rattle.flash_dev.specs.declared.image_fault.ImageFault.{ImageFault}
+use Rattle.flash_dev.specs.declared.image_fault.ImageFault.TheVariants.{ImageSize}
+use Rattle.flash_dev.specs.Geometry.{geometry_of}
 use Rattle.ftw_mount.specs.declared.kept.Kept.{Kept}
 use Rattle.var_types.specs.declared.work_state.WorkState.TheVariants.{Clean, Pending}
-use Rattle.var_types.specs.Kept.{IsContentKept, IsForeign, IsOutsideKept, spare, spare_volume, volume, work_area}
-use Rattle.var_types.specs.Layout.{image_size, spare_offset}
+use Rattle.var_types.specs.Kept.{IsContentKept, IsForeign, IsOutsideKept, content, spare, spare_volume, volume, work_area}
+use Rattle.var_types.specs.Layout.{headers_size, image_size, spare_offset}
 use Rattle.var_types.specs.WorkArea.{IsClean, is_blank, work_state}
 
 -- what is said of an image's work area and spare (this project's own)
@@ -30,6 +34,10 @@ pub record IsWritePending (slot : ℕ) (image : List ℕ) : Type 0 where
   pub says : work_state (work_area image) ≡ Pending slot
   pub used : is_blank (spare image) ≡ false
 
+-- the slot that the next write takes where so many are used: the first, where all are (this project's own)
+abbrev pub next_slot : ℕ → ℕ
+next_slot slots = if nat_lt slots 255 then slots else 0
+
 -- an image with a free slot for the next write (this project's own)
 abbrev pub IsFreed : ℕ → List ℕ → List ℕ → Type 0
 IsFreed slot image left = work_state (work_area left) ≡ Clean slot
@@ -50,3 +58,8 @@ pub record IsWritten (bytes : List ℕ) (slots : ℕ) (image left : List ℕ) : 
   pub says : work_state (work_area left) ≡ Clean slots
   pub volume : volume left ≡ bytes
   pub spare : spare_volume left ≡ bytes
+
+-- the geometry of what an image keeps, or the first refusal, that of its length before all others (this project's own)
+unfoldable pub content_geometry : List ℕ → Result Geometry ImageFault
+content_geometry image =
+    if length image == image_size then geometry_of (take headers_size (content image)) else Err (ImageSize (length image) image_size)

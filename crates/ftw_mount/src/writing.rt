@@ -2,7 +2,7 @@
 ghost use Rattle.std.specs.Prelude.{◌≡◌, ◌+◌, ◌<◌, ◌≤◌, false, length, IfOk, IfSome, OnOk};
 ghost use Rattle.flash_dev.specs.Moments.{Stays};
 ghost use Rattle.flash_dev.specs.Rules.{Leaves};
-ghost use Rattle.ftw_mount.specs.Mount.{IsFreed, IsPrepared, IsReady, IsWritten};
+ghost use Rattle.ftw_mount.specs.Mount.{IsFreed, IsPrepared, IsReady, IsWritten, next_slot};
 ghost use Rattle.outside.specs.Faults.{HasCause};
 ghost use Rattle.var_types.specs.Kept.{IsContentKept, IsContentOr, work_area};
 ghost use Rattle.var_types.specs.Layout.{image_size, volume_size};
@@ -18,7 +18,7 @@ use var_types::WorkState;
 fn renew<F: Flash>(flash: &mut F) -> Result<u32, Device>
     requires size { F.size flash.old ≡ image_size }
     requires clean { IfSome (F.holds flash.old) (λ image. IsClean (work_state (work_area image))) }
-    ensures slot { IfOk result (λ slot. slot < 255) }
+    ensures slot { IfOk result (λ slot. slot ≡ 0) }
     ensures freed { IfOk result (λ slot. Leaves (IsFreed slot) (F.holds flash.old) (F.holds flash.new)) }
     ensures at_any_moment { Stays IsContentKept F.moment F.left_since F.holds flash.old flash.new }
     ensures same_size { F.size flash.new ≡ F.size flash.old }
@@ -34,8 +34,7 @@ pub fn free_slot<F: Flash>(flash: &mut F, slots: u32) -> Result<u32, Device>
     requires size { F.size flash.old ≡ image_size }
     requires slots { slots ≤ 255 }
     requires clean { IfSome (F.holds flash.old) (λ image. work_state (work_area image) ≡ Clean slots) }
-    ensures slot { IfOk result (λ slot. slot < 255) }
-    ensures next { IfOk result (λ slot. slots < 255 → slot ≡ slots) }
+    ensures slot { IfOk result (λ slot. slot ≡ next_slot slots) }
     ensures freed { IfOk result (λ slot. Leaves (IsFreed slot) (F.holds flash.old) (F.holds flash.new)) }
     ensures at_any_moment { Stays IsContentKept F.moment F.left_since F.holds flash.old flash.new }
     ensures same_size { F.size flash.new ≡ F.size flash.old }
@@ -86,8 +85,8 @@ pub fn write_volume<F: Flash>(flash: &mut F, slots: u32, content: &[u8]) -> Resu
     requires content { length content.now ≡ volume_size }
     requires used { is_blank content.now ≡ false }
     requires clean { IfSome (F.holds flash.old) (λ image. work_state (work_area image) ≡ Clean slots) }
-    ensures slots { IfOk result (λ slots. slots ≤ 255) }
-    ensures written { IfOk result (λ slots. Leaves (IsWritten content.now slots) (F.holds flash.old) (F.holds flash.new)) }
+    ensures slots { IfOk result (λ used. used ≡ next_slot slots + 1) }
+    ensures written { IfOk result (λ used. Leaves (IsWritten content.now used) (F.holds flash.old) (F.holds flash.new)) }
     ensures at_any_moment { Stays (IsContentOr content.now) F.moment F.left_since F.holds flash.old flash.new }
     ensures same_size { F.size flash.new ≡ F.size flash.old }
     ensures cause { HasCause (F.fault_count flash.old) (F.fault_count flash.new) result }

@@ -1,1 +1,0 @@
-use Rattle.ftw_mount.proofs.mounting.settle.Goals as goal

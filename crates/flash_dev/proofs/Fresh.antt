@@ -16,7 +16,7 @@ fresh_byte : (byte : ℕ) → byte < 256 → bit_and 255 byte ≡ byte
 fresh_byte byte h = and_comm 255 byte ∙ and_byte byte h
 
 -- erased bytes at the front take any others, and those behind stay
-fresh_front : (bytes rest : List ℕ) → list_all (λ b. nat_lt b 256) bytes ≡ true → cleared (replicate (length bytes) 255 ++ rest) bytes ≡ bytes ++ rest
+pub fresh_front : (bytes rest : List ℕ) → list_all (λ b. nat_lt b 256) bytes ≡ true → cleared (replicate (length bytes) 255 ++ rest) bytes ≡ bytes ++ rest
 fresh_front [] rest all = refl
 fresh_front (byte ∷ bytes) rest all =
     let parts = and_parts (nat_lt byte 256) (list_all (λ b. nat_lt b 256) bytes) all in

@@ -1,4 +1,3 @@
-mod Sums
 mod Rooms
 mod Nexts
 mod Seen

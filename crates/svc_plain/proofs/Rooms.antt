@@ -8,7 +8,7 @@ use Rattle.std.specs.Prelude.{Option, Some, None, IfSome, true}
 use Rattle.std.specs.declared.cmp.Ordering.{Ordering}
 use Rattle.std.specs.declared.cmp.Ordering.TheVariants.{Less, Equal, Greater}
 use Rattle.std.specs.Ordering.{is_eq}
-use Rattle.svc_plain.proofs.Sums.{weight_at, sum_by-remove_entry, sum_by-insert_entry}
+use Rattle.var_types.proofs.Sums.{weight_at, sum_by-remove_entry, sum_by-insert_entry}
 use Rattle.svc_plain.specs.RoomTotals.{HasRoom, IsTotalOf, total_of, totals_and, totals_with, totals_without}
 use Rattle.svc_plain.specs.declared.room_totals.RoomTotals.{RoomTotals}
 use Rattle.var_types.proofs.Entries.{lookup-insert_entry}

@@ -30,3 +30,5 @@ pub mod Least
 pub mod Joined
 pub mod Meaning
 pub mod Owned
+pub mod WorkAreas
+pub mod Parts

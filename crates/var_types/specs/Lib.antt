@@ -31,7 +31,9 @@ pub mod Live
 pub mod Chosen
 pub mod Least
 pub mod Region
+pub mod WorkArea
 pub mod Kept
+pub mod ImageLaws
 pub mod Texts
 pub mod Answers
 pub mod TwoRegions

@@ -5,6 +5,7 @@ ghost use Rattle.var_types.specs.Key.{key_cmp};
 ghost use Rattle.var_types.specs.Laws.{RightRepliesFit, SteppedRepliesFit, SteppedSessionsAreLegal, LegalSessionsGrow, ChangesLeaveTheState};
 ghost use Rattle.var_types.specs.Laws.{SameChangesLeaveTheSameState, GuidsReadBack};
 ghost use Rattle.var_types.specs.Laws.{BytesHaveRecords, BytesHaveOneList, MapsStandInKeyOrder, MapsHoldWhatCounts, WhatCountsDecidesTheMap};
+ghost use Rattle.var_types.specs.ImageLaws.{BlankSparesHoldNothing, CleanAreasAreClean, GapsNeverMatter, NoOthersAreClean, NoOthersArePending, PendingAreasArePending};
 ghost use Rattle.var_types.specs.State.{start};
 ghost use Rattle.var_types.specs.TwoRegionsLaws.{JoinedMapsAreOrdered, JoinedLookUps, FirstOfJoinedIsLesser, PartsAreTheMap};
 ghost use Rattle.var_types.specs.TwoRegionsLaws.{MeaningStoresAreApart, MeaningStoresAnswerAlike, RegionsOwnTheirMaps};
@@ -85,4 +86,18 @@ pub fn stores_answer_for_their_state()
 /// non-volatile store the attribute for it.
 pub fn regions_own_their_maps()
     ensures { RegionsOwnTheirMaps }
+{}
+
+/// The bytes of a work area that is Clean or Pending are known by what it says, and say it; with any others it is Unclean.
+pub fn work_areas_are_known_by_their_state()
+    ensures clean { CleanAreasAreClean }
+    ensures clean_only { NoOthersAreClean }
+    ensures pending { PendingAreasArePending }
+    ensures pending_only { NoOthersArePending }
+{}
+
+/// What an image keeps depends on its volume, its work area and its spare alone, and on the volume alone where the spare is blank.
+pub fn contents_depend_on_their_parts()
+    ensures gap { GapsNeverMatter }
+    ensures blank { BlankSparesHoldNothing }
 {}

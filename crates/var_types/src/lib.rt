@@ -6,6 +6,7 @@ mod ask;
 mod answers;
 pub mod attributes;
 mod auth_fault;
+mod blank;
 mod bytes;
 mod call;
 mod decision;
@@ -33,11 +34,13 @@ mod text_buffer;
 mod units;
 mod variable;
 mod verdict;
+mod work_state;
 
 pub use answered::{Answered, Route};
 pub use ask::{Ask, Denied, Rule};
 pub use auth_fault::AuthFault;
 pub use answers::{GetAnswer, NextAnswer};
+pub use blank::is_blank;
 pub use bytes::Bytes;
 pub use call::{Call, GetCall, NextCall, SetCall};
 pub use decision::Decision;
@@ -46,9 +49,10 @@ pub use guid::{Guid, NotAGuid};
 pub use key::Key;
 pub use laws::{
     bytes_have_one_list_of_records, changes_decide_the_state, changes_keep_soundness,
-    guids_read_back, keys_are_ordered_as_defined, legal_sessions_grow, maps_hold_what_counts,
-    regions_own_their_maps, replies_are_of_their_calls_kind, stepped_sessions_are_legal,
-    stores_answer_for_their_state, two_maps_are_one, walks_answer_each_key_once,
+    contents_depend_on_their_parts, guids_read_back, keys_are_ordered_as_defined,
+    legal_sessions_grow, maps_hold_what_counts, regions_own_their_maps,
+    replies_are_of_their_calls_kind, stepped_sessions_are_legal, stores_answer_for_their_state,
+    two_maps_are_one, walks_answer_each_key_once, work_areas_are_known_by_their_state,
 };
 pub use name::{LONGEST_NAME, NameFault, check_name};
 pub use out_of_memory::OutOfMemory;
@@ -70,3 +74,4 @@ pub use text_buffer::TextBuffer;
 pub use units::{MOST_UNITS, Units, UnitsFault};
 pub use variable::Variable;
 pub use verdict::Verdict;
+pub use work_state::WorkState;

@@ -1,0 +1,33 @@
+use Rattle.std.proofs.Common.{◌≡◌, Err, IfOk, subst}
+use Rattle.flash_dev.specs.Rules.{Leaves}
+use Rattle.ftw_mount.specs.declared.mount_fault.MountFault.TheVariants.{ForeignWork}
+use Rattle.ftw_mount.specs.Mount.{Describes, IsMounted, IsMountLeft}
+use Rattle.ftw_mount.proofs.Mounts.{mount_stays, read_moments, told_now}
+use Rattle.ftw_work.proofs.Told.{reads_first, told_same}
+use Rattle.var_types.specs.Kept.{IsForeign}
+use Rattle.ftw_mount.proofs.mounting.mount.Goals as goal
+
+pub settle-requires-clause-describes : goal.settle-requires-clause-describes
+settle-requires-clause-describes g c =
+    told_now (Describes c.in_ok-kept.kept) (g.F.Flash.holds c.args.flash.now) (g.F.Flash.holds c.look_over.new.flash) c.look_over.ensures.kept
+    c.in_ok-kept.ensures.describes
+
+pub returns-clause-mounted : goal.returns-clause-mounted
+returns-clause-mounted g c =
+    subst (λ told. IfOk c.settle.result (λ slots. Leaves (IsMounted slots) told (g.F.Flash.holds c.settle.new.flash))) c.look_over.ensures.kept
+    c.settle.ensures.mounted
+
+pub returns-clause-foreign : goal.returns-clause-foreign
+returns-clause-foreign g c = λ is.
+    told_same IsForeign (g.F.Flash.holds c.args.flash.now) (g.F.Flash.holds c.look_over.new.flash) c.look_over.ensures.kept (c.settle.ensures.foreign is)
+
+pub returns-clause-only : goal.returns-clause-only
+returns-clause-only g c = λ other.
+    told_same (λ image. IsForeign image → c.settle.result ≡ Err ForeignWork) (g.F.Flash.holds c.args.flash.now) (g.F.Flash.holds c.look_over.new.flash)
+    c.look_over.ensures.kept (c.settle.ensures.only other)
+
+pub returns-clause-at_any_moment : goal.returns-clause-at_any_moment
+returns-clause-at_any_moment g c = reads_first IsMountLeft _ _ _ mount_stays c.look_over.ensures.at_any_moment c.settle.ensures.at_any_moment
+
+pub returns-in_err-kept-clause-at_any_moment : goal.returns-in_err-kept-clause-at_any_moment
+returns-in_err-kept-clause-at_any_moment g c = read_moments _ _ c.look_over.ensures.at_any_moment

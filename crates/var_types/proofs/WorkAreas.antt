@@ -187,12 +187,11 @@ unfolding clean_area
 says_clean bytes slots size e =
     let made = made_of bytes (Clean slots) (λ other. cc) e in
     let is = behind_clean (is_blank made.behind) _ made.n slots made.says in
-    let rest : length made.behind ≡ 4080 - 16 * slots = omega (arith, size, is.1, made_length bytes made.n made.behind made.split) in
-    (
+    let rest : length made.behind ≡ 4080 - 16 * slots = omega (arith, size, is.1, made_length bytes made.n made.behind made.split) in (
       omega (arith, is.1, made.few),
       made.split
-      ∙ ap (λ k. work_mark ++ (done_slots k ++ made.behind)) is.1
-      ∙ ap (λ back. work_mark ++ (done_slots slots ++ back)) (blank_replicate made.behind is.0 ∙ ap (λ k. replicate k 255) rest),
+          ∙ ap (λ k. work_mark ++ (done_slots k ++ made.behind)) is.1
+          ∙ ap (λ back. work_mark ++ (done_slots slots ++ back)) (blank_replicate made.behind is.0 ∙ ap (λ k. replicate k 255) rest),
     )
 
 -- only the work area in which the write of a slot is pending says so
@@ -205,14 +204,13 @@ says_pending bytes slot size e =
     let back = begins half_slot made.behind refl both.0 in
     let long : length made.behind ≡ 16 + length (drop 16 made.behind) = ap length back ∙ length-half (drop 16 made.behind) in
     let whole = made_length bytes made.n made.behind made.split in
-    let rest : length (drop 16 made.behind) ≡ 4064 - 16 * slot = omega (arith, size, is.1, whole, long) in
-    (
+    let rest : length (drop 16 made.behind) ≡ 4064 - 16 * slot = omega (arith, size, is.1, whole, long) in (
       omega (arith, is.1, size, whole, long),
       made.split
-      ∙ ap (λ k. work_mark ++ (done_slots k ++ made.behind)) is.1
-      ∙ ap (λ behind. work_mark ++ (done_slots slot ++ behind))
-      (back ∙ ap (λ tail. half_slot ++ tail) (blank_replicate (drop 16 made.behind) both.1 ∙ ap (λ k. replicate k 255) rest))
-      ∙ ap (λ slots. work_mark ++ slots) (sym (append_assoc (done_slots slot) half_slot (replicate (4064 - 16 * slot) 255))),
+          ∙ ap (λ k. work_mark ++ (done_slots k ++ made.behind)) is.1
+          ∙ ap (λ behind. work_mark ++ (done_slots slot ++ behind))
+          (back ∙ ap (λ tail. half_slot ++ tail) (blank_replicate (drop 16 made.behind) both.1 ∙ ap (λ k. replicate k 255) rest))
+          ∙ ap (λ slots. work_mark ++ slots) (sym (append_assoc (done_slots slot) half_slot (replicate (4064 - 16 * slot) 255))),
     )
 
 -- a work area has no more slots than 255
@@ -242,7 +240,7 @@ length-pending_area slot few =
       length-append (work_mark ++ done_slots slot) half_slot,
       length-append work_mark (done_slots slot),
       length-done_slots slot,
-      length-replicate {A = ℕ} (4064 - 16 * slot) 255
+      length-replicate {A = ℕ} (4064 - 16 * slot) 255,
     )
 
 -- a slot that isn't done ends those that are

@@ -2,8 +2,8 @@
 #![tactic(auto)]
 
 mod answered;
-mod ask;
 mod answers;
+mod ask;
 pub mod attributes;
 mod auth_fault;
 mod blank;
@@ -37,9 +37,9 @@ mod verdict;
 mod work_state;
 
 pub use answered::{Answered, Route};
+pub use answers::{GetAnswer, NextAnswer};
 pub use ask::{Ask, Denied, Rule};
 pub use auth_fault::AuthFault;
-pub use answers::{GetAnswer, NextAnswer};
 pub use blank::is_blank;
 pub use bytes::Bytes;
 pub use call::{Call, GetCall, NextCall, SetCall};

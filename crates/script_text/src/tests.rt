@@ -136,69 +136,71 @@ fn refuses_a_line_by_its_front(rt: HostRuntime) -> Result<(), Fail> {
     Ok(())
 }
 
+// Lines whose words are refused, by the reason.
+const BAD_WORDS: [(LineReason, &[&[u8]]); 6] = [
+    (
+        LineReason::Words,
+        &[
+            b"0 get",
+            b"0 get G A",
+            b"0 get x A 1 2",
+            b"0 next G A",
+            b"0 set G A 6",
+            b"0 set",
+            b"0 set G",
+            b"0 set x A 6 01 good y",
+            b"0 exitboot 0",
+            b"0 exitboot - -",
+        ],
+    ),
+    (
+        LineReason::Guid,
+        &[b"0 get 8be4 A 1", b"0 get - % x", b"0 set x A 6 01"],
+    ),
+    (
+        LineReason::Name,
+        &[
+            b"0 get G A%00 1",
+            b"0 get G %zzzz x",
+            b"0 get G % 1",
+            b"0 set G %004 x zz",
+        ],
+    ),
+    (
+        LineReason::Number,
+        &[
+            b"0 get G A 12x",
+            b"0 get G A 0x",
+            b"0 get G A 4294967296",
+            b"0 get G A 0x100000000",
+            b"0 get G A 0X10",
+            b"0 get G A -",
+            b"0 set G A 6x zz",
+        ],
+    ),
+    (
+        LineReason::Hex,
+        &[
+            b"0 set G A 6 abc",
+            b"0 set G A 6 zz",
+            b"0 set G A 6 0g good",
+            b"0 set G A 6 0g worse",
+        ],
+    ),
+    (
+        LineReason::Verdict,
+        &[
+            b"0 set G A 6 01 Good",
+            b"0 set G A 6 01 badly",
+            b"0 set G A 6 01 -",
+            b"0 set G A 0x27 - goo",
+        ],
+    ),
+];
+
 #[test]
 fn refuses_a_line_by_its_words(rt: HostRuntime) -> Result<(), Fail> {
-    let table: [(LineReason, &[&[u8]]); 6] = [
-        (
-            LineReason::Words,
-            &[
-                b"0 get",
-                b"0 get G A",
-                b"0 get x A 1 2",
-                b"0 next G A",
-                b"0 set G A 6",
-                b"0 set",
-                b"0 set G",
-                b"0 set x A 6 01 good y",
-                b"0 exitboot 0",
-                b"0 exitboot - -",
-            ],
-        ),
-        (
-            LineReason::Guid,
-            &[b"0 get 8be4 A 1", b"0 get - % x", b"0 set x A 6 01"],
-        ),
-        (
-            LineReason::Name,
-            &[
-                b"0 get G A%00 1",
-                b"0 get G %zzzz x",
-                b"0 get G % 1",
-                b"0 set G %004 x zz",
-            ],
-        ),
-        (
-            LineReason::Number,
-            &[
-                b"0 get G A 12x",
-                b"0 get G A 0x",
-                b"0 get G A 4294967296",
-                b"0 get G A 0x100000000",
-                b"0 get G A 0X10",
-                b"0 get G A -",
-                b"0 set G A 6x zz",
-            ],
-        ),
-        (
-            LineReason::Hex,
-            &[
-                b"0 set G A 6 abc",
-                b"0 set G A 6 zz",
-                b"0 set G A 6 0g good",
-                b"0 set G A 6 0g worse",
-            ],
-        ),
-        (
-            LineReason::Verdict,
-            &[
-                b"0 set G A 6 01 Good",
-                b"0 set G A 6 01 badly",
-                b"0 set G A 6 01 -",
-                b"0 set G A 0x27 - goo",
-            ],
-        ),
-    ];
-    for (reason, lines) in table {
+    for (reason, lines) in BAD_WORDS {
         assert!(rt; refuses(&rt, reason, lines)?, "{reason:?}");
     }
     Ok(())

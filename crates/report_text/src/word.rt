@@ -50,6 +50,7 @@ pub enum Word {
     Sum,
     Store,
     Device,
+    ForeignWork,
 }
 
 impl Word {
@@ -108,6 +109,7 @@ impl Word {
             Word::Sum => "sum",
             Word::Store => "store",
             Word::Device => "device",
+            Word::ForeignWork => "foreign-work",
         }
     }
 }

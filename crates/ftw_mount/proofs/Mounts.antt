@@ -5,7 +5,7 @@ use Rattle.flash_dev.specs.Rules.{IsKept, Leaves}
 use Rattle.flash_dev.proofs.Calls.{leaves_then, told_at}
 use Rattle.flash_dev.proofs.Moments.{stays_weaken}
 use Rattle.ftw_mount.specs.declared.kept.Kept.{Kept}
-use Rattle.ftw_mount.specs.Mount.{Describes, IsIdle, IsMountLeft, IsMounted, IsWritePending}
+use Rattle.ftw_mount.specs.Mount.{Describes, IsIdle, IsMountLeft, HasUsedSlots, IsWritePending}
 use Rattle.ftw_spare.specs.Spare.{IsCopied}
 use Rattle.ftw_work.specs.Work.{IsWorkLeft}
 use Rattle.ftw_work.proofs.Told.{told_after, told_both, told_more, told_same}
@@ -83,37 +83,11 @@ now_equal bytes old new same copied =
 
 -- the destination gate was opened then
 pub finished : (bytes : List ℕ) (slot : ℕ) (old now mid new : Option (List ℕ)) → now ≡ old → Leaves (IsCopied bytes) now mid
-    → Leaves (IsWorkLeft (Clean (slot + 1))) mid new → Leaves (IsMounted (slot + 1)) old new
+    → Leaves (IsWorkLeft (Clean (slot + 1))) mid new → Leaves (HasUsedSlots (slot + 1)) old new
 finished bytes slot old now mid new same copied opened =
-    subst (λ told. Leaves (IsMounted (slot + 1)) told new) same
-    (leaves_then (IsCopied bytes) (IsWorkLeft (Clean (slot + 1))) (IsMounted (slot + 1)) now mid new copied opened
+    subst (λ told. Leaves (HasUsedSlots (slot + 1)) told new) same
+    (leaves_then (IsCopied bytes) (IsWorkLeft (Clean (slot + 1))) (HasUsedSlots (slot + 1)) now mid new copied opened
     (λ image cells left told at c w. w.says))
-
--- what an image was found to be
-pub found_clean : (kept : Kept) (slots : ℕ) (told : Option (List ℕ)) → kept.state ≡ Clean slots → IfSome told (Describes kept)
-    → IfSome told (λ image. work_state (work_area image) ≡ Clean slots)
-found_clean kept slots told is described =
-    told_more (Describes kept) (λ image. work_state (work_area image) ≡ Clean slots) told described (λ image d. sym d.state ∙ is)
-
-pub found_blank : (kept : Kept) (told : Option (List ℕ)) → kept.blank ≡ true → IfSome told (Describes kept)
-    → IfSome told (λ image. is_blank (spare image) ≡ true)
-found_blank kept told is described = told_more (Describes kept) (λ image. is_blank (spare image) ≡ true) told described (λ image d. sym d.blank ∙ is)
-
-pub found_pending : (kept : Kept) (slot : ℕ) (told : Option (List ℕ)) → kept.state ≡ Pending slot → kept.blank ≡ false → IfSome told (Describes kept)
-    → IfSome told (IsWritePending slot)
-found_pending kept slot told is used described =
-    told_more (Describes kept) (IsWritePending slot) told described (λ image d. record { says = sym d.state ∙ is; used = sym d.blank ∙ used })
-
-pub found_foreign : (kept : Kept) (told : Option (List ℕ)) → kept.state ≡ Unclean → kept.blank ≡ false → IfSome told (Describes kept) → IfSome told IsForeign
-found_foreign kept told is used described =
-    told_more (Describes kept) IsForeign told described (λ image d. (sym d.blank ∙ used, sym d.state ∙ is))
-
--- an image that was found otherwise is no foreign work
-pub never_foreign : (X : Type 0) (kept : Kept) (told : Option (List ℕ)) → ((kept.state ≡ Unclean) × (kept.blank ≡ false) → ⊥) → IfSome told (Describes kept)
-    → IfSome told (λ image. IsForeign image → X)
-never_foreign X kept told other described =
-    told_more (Describes kept) (λ image. IsForeign image → X) told described
-    (λ image d foreign. absurd (other (d.state ∙ foreign.1, d.blank ∙ foreign.0)))
 
 -- a fact of an image that was read is one of what is told now
 pub told_now : (P : List ℕ → Type 0) (old now : Option (List ℕ)) → now ≡ old → IfSome old P → IfSome now P

@@ -8,7 +8,7 @@ use Rattle.flash_dev.specs.Moments.{Stays}
 use Rattle.flash_dev.specs.Rules.{Leaves}
 use Rattle.flash_dev.proofs.Calls.{leaves_then, leaves_weaken, told_at}
 use Rattle.flash_dev.proofs.Moments.{stays_then, stays_weaken}
-use Rattle.ftw_mount.specs.Mount.{IsFreed, IsPrepared, IsReady, IsWritten}
+use Rattle.ftw_mount.specs.Mount.{HasUsedSlots, IsPrepared, IsReady, IsWritten}
 use Rattle.ftw_spare.specs.Spare.{IsCopied, IsSpareErased, IsSpareFilled}
 use Rattle.ftw_work.specs.Work.{IsSpareTaken, IsWorkLeft}
 use Rattle.ftw_work.proofs.Told.{told_after, told_both, told_more}
@@ -40,9 +40,9 @@ still_clean old new clean erased =
     (λ image left c e. subst IsClean (sym (ap work_state (work_before 65536 131072 image left (omega arith) e.outside))) c)
 
 -- a work area that was made anew has a free slot
-pub renewed : (old mid new : Option (List ℕ)) → Leaves IsSpareErased old mid → Leaves (IsWorkLeft (Clean 0)) mid new → Leaves (IsFreed 0) old new
+pub renewed : (old mid new : Option (List ℕ)) → Leaves IsSpareErased old mid → Leaves (IsWorkLeft (Clean 0)) mid new → Leaves (HasUsedSlots 0) old new
 renewed old mid new erased made =
-    leaves_then IsSpareErased (IsWorkLeft (Clean 0)) (IsFreed 0) old mid new erased made (λ image cells left told now e w. w.says)
+    leaves_then IsSpareErased (IsWorkLeft (Clean 0)) (HasUsedSlots 0) old mid new erased made (λ image cells left told now e w. w.says)
 
 -- the spare was erased, and then filled
 pub prepared : (bytes : List ℕ) (old mid new : Option (List ℕ)) → Leaves IsSpareErased old mid → Leaves (IsSpareFilled bytes) mid new
@@ -161,12 +161,12 @@ any_told None = tt
 any_told (Some image) = tt
 
 -- an image with a free slot is told to have one
-pub now_freed : (slot : ℕ) (old new : Option (List ℕ)) → Leaves (IsFreed slot) old new → IfSome new (λ image. work_state (work_area image) ≡ Clean slot)
+pub now_freed : (slot : ℕ) (old new : Option (List ℕ)) → Leaves (HasUsedSlots slot) old new → IfSome new (λ image. work_state (work_area image) ≡ Clean slot)
 now_freed slot old new freed =
-    told_after (λ _. Unit {0}) (IsFreed slot) (λ image. work_state (work_area image) ≡ Clean slot) old new (any_told old) freed (λ image left u e. e)
+    told_after (λ _. Unit {0}) (HasUsedSlots slot) (λ image. work_state (work_area image) ≡ Clean slot) old new (any_told old) freed (λ image left u e. e)
 
 -- the write is ready where its content was put into the spare of an image with a free slot
-pub ready : (slot : ℕ) (bytes : List ℕ) (old mid new : Option (List ℕ)) → Leaves (IsFreed slot) old mid → Leaves (IsPrepared bytes) mid new
+pub ready : (slot : ℕ) (bytes : List ℕ) (old mid new : Option (List ℕ)) → Leaves (HasUsedSlots slot) old mid → Leaves (IsPrepared bytes) mid new
     → IfSome new (IsReady slot bytes)
 ready slot bytes old mid new freed prepared =
     told_after (λ image. work_state (work_area image) ≡ Clean slot) (IsPrepared bytes) (IsReady slot bytes) mid new

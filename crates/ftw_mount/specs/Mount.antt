@@ -26,9 +26,9 @@ pub record IsMountLeft (image left : List ℕ) : Type 0 where
   pub kept : IsContentKept image left
   pub idle : IsIdle image → left ≡ image
 
--- an image that is mounted: no write is pending, and so many slots are used (this project's own)
-abbrev pub IsMounted : ℕ → List ℕ → List ℕ → Type 0
-IsMounted slots image left = work_state (work_area left) ≡ Clean slots
+-- an image in which no write is pending, and so many slots are used (this project's own)
+abbrev pub HasUsedSlots : ℕ → List ℕ → List ℕ → Type 0
+HasUsedSlots slots image left = work_state (work_area left) ≡ Clean slots
 
 -- an image in which the write of a slot is pending, whose content stands in the spare (this project's own)
 pub record IsWritePending (slot : ℕ) (image : List ℕ) : Type 0 where
@@ -38,10 +38,6 @@ pub record IsWritePending (slot : ℕ) (image : List ℕ) : Type 0 where
 -- the slot that the next write takes where so many are used: the first, where all are (this project's own)
 abbrev pub next_slot : ℕ → ℕ
 next_slot slots = if nat_lt slots 255 then slots else 0
-
--- an image with a free slot for the next write (this project's own)
-abbrev pub IsFreed : ℕ → List ℕ → List ℕ → Type 0
-IsFreed slot image left = work_state (work_area left) ≡ Clean slot
 
 -- an image whose spare has a volume's bytes at its front, and is erased behind them; all of its other bytes are those of another (this
 -- project's own)

@@ -2,7 +2,7 @@
 ghost use Rattle.std.specs.Prelude.{◌≡◌, ◌≢◌, ◌<◌, ◌≤◌, true, length, Err, IfOk, IfSome};
 ghost use Rattle.flash_dev.specs.Moments.{Stays};
 ghost use Rattle.flash_dev.specs.Rules.{Leaves};
-ghost use Rattle.ftw_mount.specs.Mount.{Describes, IsMountLeft, IsMounted, IsWritePending};
+ghost use Rattle.ftw_mount.specs.Mount.{Describes, IsMountLeft, HasUsedSlots, IsWritePending};
 ghost use Rattle.ftw_mount.specs.declared.mount_fault.MountFault.{MountFault};
 ghost use Rattle.outside.specs.Faults.{HasCause, HasCauseAt};
 ghost use Rattle.var_types.specs.Kept.{IsForeign, spare, work_area};
@@ -21,7 +21,7 @@ fn remake<F: Flash>(flash: &mut F) -> Result<u32, Device>
     requires size { F.size flash.old ≡ image_size }
     requires blank { IfSome (F.holds flash.old) (λ image. is_blank (spare image) ≡ true) }
     requires unmade { IfSome (F.holds flash.old) (λ image. ¬ IsClean (work_state (work_area image))) }
-    ensures mounted { IfOk result (λ slots. Leaves (IsMounted slots) (F.holds flash.old) (F.holds flash.new)) }
+    ensures mounted { IfOk result (λ slots. Leaves (HasUsedSlots slots) (F.holds flash.old) (F.holds flash.new)) }
     ensures slots { IfOk result (λ slots. slots ≤ 255) }
     ensures at_any_moment { Stays IsMountLeft F.moment F.left_since F.holds flash.old flash.new }
     ensures same_size { F.size flash.new ≡ F.size flash.old }
@@ -37,7 +37,7 @@ fn finish<F: Flash>(flash: &mut F, buffer: &mut [u8], slot: u32) -> Result<u32, 
     requires buffer { length buffer.old ≡ volume_size }
     requires slot { slot < 255 }
     requires pending { IfSome (F.holds flash.old) (IsWritePending slot) }
-    ensures mounted { IfOk result (λ slots. Leaves (IsMounted slots) (F.holds flash.old) (F.holds flash.new)) }
+    ensures mounted { IfOk result (λ slots. Leaves (HasUsedSlots slots) (F.holds flash.old) (F.holds flash.new)) }
     ensures slots { IfOk result (λ slots. slots ≤ 255) }
     ensures at_any_moment { Stays IsMountLeft F.moment F.left_since F.holds flash.old flash.new }
     ensures same_size { F.size flash.new ≡ F.size flash.old }
@@ -55,7 +55,7 @@ fn settle<F: Flash>(flash: &mut F, buffer: &mut [u8], kept: Kept) -> Result<u32,
     requires buffer { length buffer.old ≡ volume_size }
     requires describes { IfSome (F.holds flash.old) (Describes kept) }
     requires few { HasFewSlots kept.state }
-    ensures mounted { IfOk result (λ slots. Leaves (IsMounted slots) (F.holds flash.old) (F.holds flash.new)) }
+    ensures mounted { IfOk result (λ slots. Leaves (HasUsedSlots slots) (F.holds flash.old) (F.holds flash.new)) }
     ensures slots { IfOk result (λ slots. slots ≤ 255) }
     ensures foreign { result ≡ Err MountFault.ForeignWork → IfSome (F.holds flash.old) IsForeign }
     ensures only { result ≢ Err MountFault.Device → IfSome (F.holds flash.old) (λ image. IsForeign image → result ≡ Err MountFault.ForeignWork) }
@@ -77,7 +77,7 @@ fn settle<F: Flash>(flash: &mut F, buffer: &mut [u8], kept: Kept) -> Result<u32,
 pub fn mount<F: Flash>(flash: &mut F, buffer: &mut [u8]) -> Result<u32, MountFault>
     requires size { F.size flash.old ≡ image_size }
     requires buffer { length buffer.old ≡ volume_size }
-    ensures mounted { IfOk result (λ slots. Leaves (IsMounted slots) (F.holds flash.old) (F.holds flash.new)) }
+    ensures mounted { IfOk result (λ slots. Leaves (HasUsedSlots slots) (F.holds flash.old) (F.holds flash.new)) }
     ensures slots { IfOk result (λ slots. slots ≤ 255) }
 
     // It is foreign work exactly where no call of the flash failed and the image is that.

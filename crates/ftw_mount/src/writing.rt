@@ -2,7 +2,7 @@
 ghost use Rattle.std.specs.Prelude.{◌≡◌, ◌+◌, ◌<◌, ◌≤◌, false, length, IfOk, IfSome, OnOk};
 ghost use Rattle.flash_dev.specs.Moments.{Stays};
 ghost use Rattle.flash_dev.specs.Rules.{Leaves};
-ghost use Rattle.ftw_mount.specs.Mount.{IsFreed, IsPrepared, IsReady, IsWritten, next_slot};
+ghost use Rattle.ftw_mount.specs.Mount.{HasUsedSlots, IsPrepared, IsReady, IsWritten, next_slot};
 ghost use Rattle.outside.specs.Faults.{HasCause};
 ghost use Rattle.var_types.specs.Kept.{IsContentKept, IsContentOr, work_area};
 ghost use Rattle.var_types.specs.Layout.{image_size, volume_size};
@@ -19,7 +19,7 @@ fn renew<F: Flash>(flash: &mut F) -> Result<u32, Device>
     requires size { F.size flash.old ≡ image_size }
     requires clean { IfSome (F.holds flash.old) (λ image. IsClean (work_state (work_area image))) }
     ensures slot { IfOk result (λ slot. slot ≡ 0) }
-    ensures freed { IfOk result (λ slot. Leaves (IsFreed slot) (F.holds flash.old) (F.holds flash.new)) }
+    ensures freed { IfOk result (λ slot. Leaves (HasUsedSlots slot) (F.holds flash.old) (F.holds flash.new)) }
     ensures at_any_moment { Stays IsContentKept F.moment F.left_since F.holds flash.old flash.new }
     ensures same_size { F.size flash.new ≡ F.size flash.old }
     ensures cause { HasCause (F.fault_count flash.old) (F.fault_count flash.new) result }
@@ -35,7 +35,7 @@ pub fn free_slot<F: Flash>(flash: &mut F, slots: u32) -> Result<u32, Device>
     requires slots { slots ≤ 255 }
     requires clean { IfSome (F.holds flash.old) (λ image. work_state (work_area image) ≡ Clean slots) }
     ensures slot { IfOk result (λ slot. slot ≡ next_slot slots) }
-    ensures freed { IfOk result (λ slot. Leaves (IsFreed slot) (F.holds flash.old) (F.holds flash.new)) }
+    ensures freed { IfOk result (λ slot. Leaves (HasUsedSlots slot) (F.holds flash.old) (F.holds flash.new)) }
     ensures at_any_moment { Stays IsContentKept F.moment F.left_since F.holds flash.old flash.new }
     ensures same_size { F.size flash.new ≡ F.size flash.old }
     ensures cause { HasCause (F.fault_count flash.old) (F.fault_count flash.new) result }

@@ -1,5 +1,5 @@
 -- What single steps of a flash leave outside of their range.
-use Rattle.std.proofs.Common.{◌≡◌, ℕ, suc, ◌+◌, ◌*◌, ◌≤◌, List, [], ◌∷◌, ◌++◌, length, take, drop, replicate, nat_lt, true, Result, Ok, Err, OnOk, Option, Some, IfSome, sym, ap, ap₂, ◌∙◌, subst, take-append-drop, length-append}
+use Rattle.std.proofs.Common.{◌≡◌, ℕ, suc, ◌+◌, ◌*◌, ◌≤◌, List, [], ◌∷◌, ◌++◌, length, take, drop, replicate, nat_lt, true, Option, Some, IfSome, sym, ap, ap₂, ◌∙◌, subst, take-append-drop, length-append}
 use Rattle.std.specs.List.{list_all}
 use Rattle.std.proofs.lemmas.List.{append_assoc, drop-drop, drop_at, replicate-append-replicate, take_at}
 use Rattle.flash_dev.specs.Moments.{Stays}
@@ -38,11 +38,6 @@ program_outside at bytes image left is = record {
 -- an erasing changes its block alone
 pub erase_outside : (block : ℕ) (image left : List ℕ) → IsEraseLeft block image left → IsOutsideKept (4096 * block) (4096 * block + 4096) image left
 erase_outside block image left is = record { len = is.len; before = is.before; behind = is.behind }
-
--- what holds after a call that is done holds where more follows from it
-pub ok_weaken : {T E : Type 0} (r : Result T E) (P Q : Type 0) → OnOk r P → (P → Q) → OnOk r Q
-ok_weaken (Ok x) P Q is more = more is
-ok_weaken (Err e) P Q is more = tt
 
 -- what is told is as long as an image
 pub image_sized : (told : Option (List ℕ)) (n : ℕ) → n ≡ 131072 → IfSome told (λ image. length image ≡ n) → IfSome told (λ image. length image ≡ 131072)

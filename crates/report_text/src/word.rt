@@ -71,6 +71,7 @@ pub enum Word {
     Verdict,
     Stamp,
     AppendSize,
+    ForeignWork,
 }
 
 impl Word {
@@ -150,6 +151,7 @@ impl Word {
             Word::Verdict => "verdict",
             Word::Stamp => "stamp",
             Word::AppendSize => "append-size",
+            Word::ForeignWork => "foreign-work",
         }
     }
 }

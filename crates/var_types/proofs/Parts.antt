@@ -180,11 +180,6 @@ module _ (front area back : List ℕ) (early : length front ≡ 61440) (size : l
   behind_front : drop 61440 (front ++ (area ++ back)) ≡ area ++ back
   behind_front = drop_at front (area ++ back) 61440 early
 
-  pub framed_volume : volume (front ++ (area ++ back)) ≡ volume front
-  unfolding volume
-  framed_volume =
-      sym (take-take 57344 61440 (front ++ (area ++ back)) (omega arith)) ∙ ap (take 57344) (take_at front (area ++ back) 61440 early)
-
   pub framed_work : work_area (front ++ (area ++ back)) ≡ area
   unfolding work_area
   framed_work = ap (take 4096) behind_front ∙ take_at area back 4096 size

@@ -1,7 +1,7 @@
 -- Where no call fails, what is accepted is done, and what is refused ends with its refusal.
 use Rattle.std.proofs.Common.{◌≡◌, ◌≢◌, ◌⊎◌, ℕ, Bool, false, List, Option, Some, None, Result, Ok, Err, IsOk, IsErr, inl, inr, ⊎_elim, subst, sym, true≢false}
 use Rattle.std.proofs.lemmas.Bool.{cases_eq}
-use Rattle.flash_dev.specs.Geometry.{image_geometry}
+use Rattle.ftw_mount.specs.Mount.{content_geometry}
 use Rattle.varsvc.specs.declared.order.Order.TheVariants as order
 use Rattle.varsvc.specs.declared.usage.UsageFault.{UsageFault}
 use Rattle.varsvc.specs.Images.{IsImage, IsNoImage, Lists, RefusesList}
@@ -51,12 +51,14 @@ no_report (Some bytes) lacking text is reports = true≢false (sym (subst (λ r.
 -- an image that is accepted is not refused
 no_refusal : (image : Option (List ℕ)) (size : ℕ) (text : List ℕ) → IsImage image → RefusesList image size text → ⊥
 no_refusal None size text is refused = is
-no_refusal (Some bytes) size text is refused = true≢false (sym (subst (λ r. IsOk r) refused.1.told is))
+no_refusal (Some bytes) size text is refused =
+    ⊎_elim (λ fault. true≢false (sym (subst (λ r. IsOk r) fault.1.told is.0))) (λ foreign. is.1 foreign.0.told.1) refused
 
 -- an image that is refused is not listed
 no_listing : (image : Option (List ℕ)) (size : ℕ) (text : List ℕ) → IsNoImage image → Lists image size text → ⊥
 no_listing None size text is lists = is
-no_listing (Some bytes) size text is lists = not_both (image_geometry bytes) is lists.listing.0
+no_listing (Some bytes) size text is lists =
+    ⊎_elim (λ refused. not_both (content_geometry bytes) refused lists.listing.0) (λ foreign. lists.listing.1 foreign) is
   where
     not_both : {A E : Type 0} (r : Result A E) → IsErr r → IsOk r → ⊥
     not_both (Ok x) e o = true≢false (sym e)

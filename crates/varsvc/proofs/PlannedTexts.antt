@@ -30,6 +30,19 @@ module _ (r : Row) where
     memory = λ e. absurd (omega (arith, e));
   }
 
+  -- the image is refused
+  pub text_image : (text : List ℕ) → r.image text → IsText r 4 text
+  text_image text h = record {
+    known = inr (inr (inr (inl refl)));
+    done = λ e. absurd (omega (arith, e));
+    usage = λ e. absurd (omega (arith, e));
+    script = λ e. absurd (omega (arith, e));
+    image = λ e. h;
+    input = λ e. absurd (omega (arith, e));
+    device = λ e. absurd (omega (arith, e));
+    memory = λ e. absurd (omega (arith, e));
+  }
+
   -- the call is out of memory, or some reply is
   pub text_lacking : (text : List ℕ) → (text ≡ memory_line) ⊎ r.lacking text → IsText r 8 text
   text_lacking text h = record {

@@ -1,19 +1,122 @@
--- The listing of a volume that was read.
-use Rattle.std.proofs.Common.{◌≡◌, ℕ, true, List, take, drop, Option, Some, None, IfSome, ap}
+-- The listing of what an image keeps, and the refusals of it.
+use Rattle.std.proofs.Common.{◌≡◌, ◌≢◌, inl, inr, ℕ, true, false, List, length, take, drop, Option, Some, None, Result, Ok, Err, IsErr, IsOk, IfSome, refl, sym, ap, ◌∙◌, subst, arith}
+use Rattle.std.specs.Prelude.{if◌then◌else◌}
+use Rattle.std.proofs.lemmas.Bool.{eq-eqb, ne_eqb}
+use Rattle.flash_dev.specs.declared.geometry.Geometry.{Geometry}
+use Rattle.flash_dev.specs.declared.image_fault.ImageFault.{ImageFault}
+use Rattle.flash_dev.specs.declared.image_fault.ImageFault.TheVariants as image
+use Rattle.flash_dev.specs.Geometry.{geometry_of}
+use Rattle.ftw_mount.specs.declared.kept.Kept.{Kept}
+use Rattle.ftw_mount.specs.Mount.{Describes, content_geometry}
 use Rattle.report_text.specs.Listing.{listing_text}
-use Rattle.var_types.specs.Kept.{kept}
-use Rattle.var_types.specs.Layout.{headers_size, image_size, volume_size}
+use Rattle.var_types.specs.Kept.{IsForeign, IsSound, content, kept}
+use Rattle.var_types.specs.Layout.{headers_size, image_size}
 use Rattle.var_types.specs.Record.{Authenticated}
 use Rattle.var_types.specs.Region.{region_map}
-use Rattle.varsvc.specs.Images.{AcceptsImage, Lists}
+use Rattle.varsvc.specs.declared.plan.Plan.{Plan}
+use Rattle.varsvc.specs.declared.plan.Plan.TheVariants.{DeviceFault}
+use Rattle.varsvc.specs.FaultLines.{foreign_line, image_line}
+use Rattle.varsvc.specs.Images.{IsFaultOf, IsForeignImage, IsRead, Lists, RefusesList}
+use Rattle.varsvc.specs.Outcome.{IsText, list_row}
+use Rattle.varsvc.specs.Plan.{PlansFault, PlansLine, status_of, text_of}
+use Rattle.varsvc.proofs.PlannedTexts.{text_done, text_image}
+use Rattle.varsvc.proofs.Plans.{line_text, other_status}
 
--- the listing of the region that a volume is
+-- the listing of the region that a content is
 abbrev pub volume_listing : List ℕ → List ℕ
 volume_listing volume = listing_text (region_map (record { form = Authenticated; bytes = volume; first = headers_size; non_volatile = true }))
 
--- the listing of the volume of an accepted image is the image's
-pub volume_lists : (told : Option (List ℕ)) (size : ℕ) (volume : List ℕ) → size ≡ image_size → AcceptsImage told
-    → IfSome told (λ bytes. volume ≡ take volume_size (drop 0 bytes)) → Lists told size (volume_listing volume)
+-- what was read says what the content's geometry is
+read_geometry : (is : Kept) (bytes cells : List ℕ) → IsRead is bytes cells → geometry_of (take 100 bytes) ≡ content_geometry cells
+unfolding content_geometry
+read_geometry is bytes cells read =
+    ap (λ list. geometry_of (take 100 list)) read.is_content
+    ∙ sym (
+    ap (λ b. if b then geometry_of (take 100 (content cells)) else Err (image.ImageSize (length cells) 131072))
+    (eq-eqb (length cells) 131072 read.whole)
+    )
+
+-- the listing of a content that is accepted and no foreign work is the image's
+content_lists : (is : Kept) (bytes : List ℕ) (told : Option (List ℕ)) → IsOk (geometry_of (take 100 bytes))
+    → ((cells : List ℕ) → Describes is cells → IsSound cells) → IfSome told (IsRead is bytes) → Lists told 131072 (volume_listing bytes)
 unfolding kept
-volume_lists None size volume is accepts read = record { length = is; listing = tt }
-volume_lists (Some bytes) size volume is accepts read = record { length = is; listing = (accepts, ap volume_listing read) }
+content_lists is bytes None accepted sound read = record { length = refl; listing = tt }
+content_lists is bytes (Some cells) accepted sound read = record {
+  length = refl;
+  listing = (subst IsOk (read_geometry is bytes cells read) accepted, sound cells read.describes, ap volume_listing read.is_content);
+}
+
+pub listed_text : (is : Kept) (bytes : List ℕ) (told : Option (List ℕ)) (plan : Plan) → IsOk (geometry_of (take 100 bytes))
+    → ((cells : List ℕ) → Describes is cells → IsSound cells) → IfSome told (IsRead is bytes) → PlansLine 0 (volume_listing bytes) plan
+    → IsText (list_row told 131072) (status_of plan) (text_of plan)
+listed_text is bytes told plan accepted sound read plans =
+    line_text (list_row told 131072) 0 (volume_listing bytes) plan
+    (text_done (list_row told 131072) (volume_listing bytes) (content_lists is bytes told accepted sound read)) plans
+
+-- the image is refused as foreign work
+content_foreign : (is : Kept) (bytes : List ℕ) (told : Option (List ℕ)) → IsOk (geometry_of (take 100 bytes))
+    → ((cells : List ℕ) → Describes is cells → IsForeign cells) → IfSome told (IsRead is bytes) → IsForeignImage told 131072
+content_foreign is bytes None accepted foreign read = record { length = refl; told = tt }
+content_foreign is bytes (Some cells) accepted foreign read = record {
+  length = refl;
+  told = (subst IsOk (read_geometry is bytes cells read) accepted, foreign cells read.describes);
+}
+
+pub foreign_text : (is : Kept) (bytes : List ℕ) (told : Option (List ℕ)) (plan : Plan) → IsOk (geometry_of (take 100 bytes))
+    → ((cells : List ℕ) → Describes is cells → IsForeign cells) → IfSome told (IsRead is bytes) → PlansLine 4 foreign_line plan
+    → IsText (list_row told 131072) (status_of plan) (text_of plan)
+foreign_text is bytes told plan accepted foreign read plans =
+    line_text (list_row told 131072) 4 foreign_line plan
+    (text_image (list_row told 131072) foreign_line (inr (content_foreign is bytes told accepted foreign read, refl))) plans
+
+-- the plan for a fault that isn't the flash's prints its line
+fault_line : (fault : ImageFault) (plan : Plan) → fault ≢ image.Device → PlansFault fault plan → PlansLine 4 (image_line fault) plan
+fault_line (image.ImageSize have want) plan other plans = plans
+fault_line (image.NotAVolume at) plan other plans = plans
+fault_line (image.BlockSize value) plan other plans = plans
+fault_line (image.BadSum sum) plan other plans = plans
+fault_line (image.NotAStore at) plan other plans = plans
+fault_line image.Device plan other plans = absurd (other refl)
+
+pub fault_status : (fault : ImageFault) (plan : Plan) → fault ≢ image.Device → PlansFault fault plan → status_of plan ≢ 7
+fault_status fault plan other plans =
+    other_status 7 4 (image_line fault) plan (λ e. omega (arith, e)) (λ e. omega (arith, e)) (fault_line fault plan other plans)
+
+-- the image is refused for a fault of its content
+content_fault : (is : Kept) (bytes : List ℕ) (fault : ImageFault) (told : Option (List ℕ)) → fault ≢ image.Device → geometry_of (take 100 bytes) ≡ Err fault
+    → IfSome told (IsRead is bytes) → IsFaultOf told 131072 fault
+content_fault is bytes fault None other refused read = record { told = tt; by_length = λ size. absurd (size refl); is_image = other }
+content_fault is bytes fault (Some cells) other refused read =
+    record { told = sym (read_geometry is bytes cells read) ∙ refused; by_length = λ size. absurd (size refl); is_image = other }
+
+pub fault_text : (is : Kept) (bytes : List ℕ) (fault : ImageFault) (told : Option (List ℕ)) (plan : Plan) → fault ≢ image.Device
+    → geometry_of (take 100 bytes) ≡ Err fault → IfSome told (IsRead is bytes) → PlansFault fault plan
+    → IsText (list_row told 131072) (status_of plan) (text_of plan)
+fault_text is bytes fault told plan other refused read plans =
+    line_text (list_row told 131072) 4 (image_line fault) plan
+    (text_image (list_row told 131072) (image_line fault) (inl (fault, content_fault is bytes fault told other refused read, refl)))
+    (fault_line fault plan other plans)
+
+-- the image is refused for its length
+size_fault : (told : Option (List ℕ)) (size : ℕ) → size ≢ 131072 → IfSome told (λ cells. length cells ≡ size)
+    → IsFaultOf told size (image.ImageSize size 131072)
+unfolding content_geometry
+size_fault None size other law = record { told = tt; by_length = λ e. refl; is_image = λ e. cc }
+size_fault (Some cells) size other law =
+    record { told = rw (ne_eqb (length cells) 131072 (λ e. other (sym law ∙ e)), law) refl; by_length = λ e. refl; is_image = λ e. cc }
+
+pub size_text : (told : Option (List ℕ)) (size : ℕ) (plan : Plan) → size ≢ 131072 → IfSome told (λ cells. length cells ≡ size)
+    → PlansLine 4 (image_line (image.ImageSize size 131072)) plan → IsText (list_row told size) (status_of plan) (text_of plan)
+size_text told size plan other law plans =
+    line_text (list_row told size) 4 (image_line (image.ImageSize size 131072)) plan
+    (text_image (list_row told size) (image_line (image.ImageSize size 131072)) (inl (image.ImageSize size 131072, size_fault told size other law, refl))) plans
+
+-- what was read of an image
+pub is_read : (is : Kept) (bytes : List ℕ) (told : Option (List ℕ)) → IfSome told (λ cells. length cells ≡ 131072) → IfSome told (Describes is)
+    → IfSome told (λ cells. bytes ≡ content cells) → IfSome told (IsRead is bytes)
+is_read is bytes None whole describes read = tt
+is_read is bytes (Some cells) whole describes read = record { whole = whole; describes = describes; is_content = read }
+
+-- what was found to be accepted is
+pub is_accepted : (r found : Result Geometry ImageFault) (geometry : Geometry) → r ≡ found → r ≡ Ok geometry → IsOk found
+is_accepted r found geometry same is = subst IsOk (sym is ∙ same) refl

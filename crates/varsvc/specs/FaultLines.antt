@@ -33,6 +33,10 @@ image_line (image.BadSum sum) = line_text (word_text word.Image ∷ word_text wo
 image_line (image.NotAStore at) = line_text (word_text word.Image ∷ word_text word.Store ∷ decimal at ∷ [])
 image_line image.Device = device_line
 
+-- the line for an image of foreign work (this project's own)
+unfoldable pub foreign_line : List ℕ
+foreign_line = line_text (word_text word.Image ∷ word_text word.ForeignWork ∷ [])
+
 -- the line for refused words (this project's own)
 unfoldable pub usage_line : UsageFault → List ℕ
 usage_line usage.NoVerb = line_text (word_text word.Usage ∷ word_text word.NoVerb ∷ [])

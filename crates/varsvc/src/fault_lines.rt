@@ -1,7 +1,7 @@
 ghost use Rattle.std.specs.Prelude.{◌≡◌, [], ◌∷◌, decimal};
 ghost use Rattle.report_text.specs.Line.{line_text};
 ghost use Rattle.report_text.specs.Word.{word_text};
-ghost use Rattle.varsvc.specs.FaultLines.{usage_line, script_line, memory_line, device_line, image_line, reason_word};
+ghost use Rattle.varsvc.specs.FaultLines.{usage_line, script_line, memory_line, device_line, foreign_line, image_line, reason_word};
 
 use crate::usage::UsageFault;
 use flash_dev::ImageFault;
@@ -56,6 +56,14 @@ pub fn write_image_line<P: Put>(fault: ImageFault, out: &mut P)
         ImageFault::NotAStore { at } => write_image_number(Word::Store, u64::from(at), out),
         ImageFault::Device => write_device_line(out),
     }
+}
+
+/// Puts the line for an image of foreign work.
+#[tactic(auto, unfolding(crate::specs::FaultLines::foreign_line))]
+pub fn write_foreign_line<P: Put>(out: &mut P)
+    ensures { P.Puts out.old out.new foreign_line }
+{
+    write_line(&[Part::Word(Word::Image), Part::Word(Word::ForeignWork)], out)
 }
 
 /// Puts the line for refused words.

@@ -1,21 +1,25 @@
 //! What is done with an image alone, and what is to be printed of it.
-ghost use Rattle.std.specs.Prelude.{◌≡◌, true, length};
+ghost use Rattle.std.specs.Prelude.{◌≡◌, ◌≢◌, true, length, take, IfSome, IsOk, List, Option, ℕ};
 ghost use Rattle.flash_dev.specs.Moments.{Stays};
 ghost use Rattle.flash_dev.specs.Rules.{IsKept};
 ghost use Rattle.flash_dev.specs.Formatting.{IsFormatLeft};
+ghost use Rattle.flash_dev.specs.Geometry.{geometry_of};
 ghost use Rattle.report_text.specs.Listing.{listing_text};
 ghost use Rattle.var_types.specs.Layout.{headers_size, image_size, volume_size};
 ghost use Rattle.var_types.specs.Record.{Authenticated};
 ghost use Rattle.var_types.specs.Region.{region_map};
-ghost use Rattle.varsvc.specs.FaultLines.{image_line};
-ghost use Rattle.varsvc.specs.Images.{AcceptsImage};
+ghost use Rattle.varsvc.specs.FaultLines.{foreign_line, image_line};
+ghost use Rattle.varsvc.specs.Images.{IsRead};
 ghost use Rattle.varsvc.specs.Outcome.{FailsAt, IsText, LeavesImage, format_row, list_row};
 ghost use Rattle.varsvc.specs.Plan.{PlansFault, PlansLine, status_of, text_of};
 
-use crate::fault_lines::write_image_line;
+use crate::fault_lines::{write_foreign_line, write_image_line};
 use crate::input::zeros;
 use crate::plan::{Plan, plan_text};
-use flash_dev::{Flash, HEADERS_BYTES, ImageFault, VOLUME_BYTES, format_image, read_geometry};
+use flash_dev::{
+    Flash, HEADERS_BYTES, IMAGE_BYTES, ImageFault, VOLUME_BYTES, format_image, geometry_of,
+};
+use ftw_mount::{Kept, read_kept};
 use report_text::write_listing;
 use std::alloc::Global;
 use var_region::Region;
@@ -50,38 +54,71 @@ fn plan_listing(alloc: Global, volume: &[u8]) -> Plan
     }
 }
 
-// Reads the volume of an accepted image in one call, and plans its listing.
-fn plan_read<F: Flash>(alloc: Global, flash: &mut F, volume: &mut [u8]) -> Plan
+fn plan_foreign(alloc: Global) -> Plan
+    ensures { PlansLine 4 foreign_line result }
+{
+    let mut text = TextBuffer::new(alloc);
+    write_foreign_line(&mut text);
+    plan_text(4, text)
+}
+
+// Plans the listing of a content that is accepted, unless it is that of foreign work.
+fn plan_kept(alloc: Global, kept: Kept, content: &[u8]) -> Plan
+    requires content { length content.now ≡ volume_size }
+    requires accepted { IsOk (geometry_of (take headers_size content.now)) }
+    ensures text { (told : Option (List ℕ)) → IfSome told (IsRead kept content.now) → IsText (list_row told image_size) (status_of result) (text_of result) }
+    ensures device { status_of result ≢ 7 }
+{
+    if kept.is_foreign() {
+        return plan_foreign(alloc);
+    }
+    plan_listing(alloc, content)
+}
+
+// Plans the listing of what was read of an image, or the refusal of it.
+fn plan_content(alloc: Global, kept: Kept, content: &[u8]) -> Plan
+    requires { length content.now ≡ volume_size }
+    ensures text { (told : Option (List ℕ)) → IfSome told (IsRead kept content.now) → IsText (list_row told image_size) (status_of result) (text_of result) }
+    ensures device { status_of result ≢ 7 }
+{
+    match geometry_of(&content[..HEADERS_BYTES]) {
+        Ok(_) => plan_kept(alloc, kept, content),
+        Err(fault) => plan_fault(alloc, fault),
+    }
+}
+
+// Reads what an image of the right length keeps, and plans its listing.
+fn plan_read<F: Flash>(alloc: Global, flash: &mut F, content: &mut [u8]) -> Plan
     requires size { F.size flash.old ≡ image_size }
-    requires volume { length volume.old ≡ volume_size }
-    ensures text { AcceptsImage (F.holds flash.old) → IsText (list_row (F.holds flash.old) (F.size flash.old)) (status_of result) (text_of result) }
+    requires content { length content.old ≡ volume_size }
+    ensures text { IsText (list_row (F.holds flash.old) (F.size flash.old)) (status_of result) (text_of result) }
     ensures cause { FailsAt 7 (status_of result) (F.fault_count flash.old) (F.fault_count flash.new) }
     ensures kept { F.holds flash.new ≡ F.holds flash.old }
     ensures at_any_moment { Stays IsKept F.moment F.left_since F.holds flash.old flash.new }
     ensures same_size { F.size flash.new ≡ F.size flash.old }
 {
-    match flash.read(0, volume) {
-        Ok(()) => plan_listing(alloc, volume),
+    match read_kept(flash, content) {
+        Ok(kept) => plan_content(alloc, kept, content),
         Err(_) => Plan::DeviceFault,
     }
 }
 
-// Plans the listing of an accepted image, where there is memory for its volume.
-fn plan_volume<F: Flash>(alloc: Global, flash: &mut F) -> Plan
+// Plans the listing of an image of the right length, where there is memory for what it keeps.
+fn plan_image<F: Flash>(alloc: Global, flash: &mut F) -> Plan
     requires { F.size flash.old ≡ image_size }
-    ensures text { AcceptsImage (F.holds flash.old) → IsText (list_row (F.holds flash.old) (F.size flash.old)) (status_of result) (text_of result) }
+    ensures text { IsText (list_row (F.holds flash.old) (F.size flash.old)) (status_of result) (text_of result) }
     ensures cause { FailsAt 7 (status_of result) (F.fault_count flash.old) (F.fault_count flash.new) }
     ensures kept { F.holds flash.new ≡ F.holds flash.old }
     ensures at_any_moment { Stays IsKept F.moment F.left_since F.holds flash.old flash.new }
     ensures size { F.size flash.new ≡ F.size flash.old }
 {
     match zeros(alloc, VOLUME_BYTES) {
-        Ok(mut volume) => plan_read(alloc, flash, &mut volume),
+        Ok(mut content) => plan_read(alloc, flash, &mut content),
         Err(_) => Plan::NoMemory,
     }
 }
 
-/// Lists the variables that an image keeps; its bytes stay.
+/// Lists the variables that an image keeps; its bytes stay. An image in the middle of a write is listed as it will be after a mount.
 pub fn plan_list<F: Flash>(alloc: Global, flash: &mut F) -> Plan
     ensures text { IsText (list_row (F.holds flash.old) (F.size flash.old)) (status_of result) (text_of result) }
     ensures cause { FailsAt 7 (status_of result) (F.fault_count flash.old) (F.fault_count flash.new) }
@@ -89,10 +126,12 @@ pub fn plan_list<F: Flash>(alloc: Global, flash: &mut F) -> Plan
     ensures at_any_moment { Stays IsKept F.moment F.left_since F.holds flash.old flash.new }
     ensures size { F.size flash.new ≡ F.size flash.old }
 {
-    match read_geometry(flash) {
-        Ok(_) => plan_volume(alloc, flash),
-        Err(fault) => plan_fault(alloc, fault),
+    let have = flash.len();
+    if have != IMAGE_BYTES {
+        let want = IMAGE_BYTES;
+        return plan_refused(alloc, ImageFault::ImageSize { have, want });
     }
+    plan_image(alloc, flash)
 }
 
 /// Leaves an image without variables, of which nothing is printed.

@@ -30,6 +30,11 @@ const RECORD: [u8; 82] = [
 const LISTING: &[u8] =
     b"variables 1\n8be4df61-93ca-11d2-aa0d-00e098032b8c BootOrder 0x00000007 - 0100\nend\n";
 
+// The header of a work area without used slots, and behind it a slot that is pending.
+const MARK: [u8; 16] = *b"VARSVC-FTW-0001\xFE";
+
+const PENDING: [u8; 17] = *b"VARSVC-FTW-0001\xFE\xFE";
+
 /// Bytes that stand at a place of an image.
 type Part<'a> = (usize, &'a [u8]);
 
@@ -87,27 +92,44 @@ fn call(
 #[test]
 fn images_are_listed(rt: HostRuntime) -> Result<(), Fail> {
     let alloc = rt.alloc();
-    let cases: [(&[Part], &[u8]); 5] = [
-        (&[], b"variables 0\nend\n"),
-        (&[(100, &RECORD)], LISTING),
-        // what follows the volume is not looked at
-        (
-            &[(100, &RECORD), (57_344, &RECORD), (65_536, &[0])],
-            LISTING,
-        ),
+    // the listing, and in how many reads: the spare's blocks up to the first that isn't blank, the work area, and what counts
+    let cases: [(&[Part], &[u8], u32); 9] = [
+        (&[], b"variables 0\nend\n", 18),
+        (&[(100, &RECORD)], LISTING, 18),
+        // what follows the volume up to the work area is not looked at
+        (&[(100, &RECORD), (57_344, &RECORD)], LISTING, 18),
         // fields that are not looked at
-        (&[(100, &RECORD), (94, &[1, 2, 3, 4, 5, 6])], LISTING),
+        (&[(100, &RECORD), (94, &[1, 2, 3, 4, 5, 6])], LISTING, 18),
         // the state of a deleted variable
-        (&[(100, &RECORD), (102, &[0x3d])], b"variables 0\nend\n"),
+        (&[(100, &RECORD), (102, &[0x3d])], b"variables 0\nend\n", 18),
+        // another work area, and ours in which a write is pending, beside a blank spare
+        (&[(100, &RECORD), (61_440, &RECORD)], LISTING, 18),
+        (&[(100, &RECORD), (61_440, &PENDING)], LISTING, 18),
+        // a used spare of which no write is pending, and one of which one is, whatever the volume holds
+        (
+            &[(100, &RECORD), (61_440, &MARK), (131_071, &[0])],
+            LISTING,
+            18,
+        ),
+        (
+            &[
+                (0, &[0; 100]),
+                (61_440, &PENDING),
+                (65_536, &HEADERS),
+                (65_636, &RECORD),
+            ],
+            LISTING,
+            3,
+        ),
     ];
-    for (parts, text) in cases {
+    for (parts, text, calls) in cases {
         let image = image_of(alloc, parts)?;
         let left = call(alloc, "list", image, &[], &[])?;
         assert_eq!(rt; left.status, 0);
         assert_eq!(rt; left.text.as_slice(), text);
         let after = left.image.expect(&rt, "the image is there");
         assert_eq!(rt; after.bytes(), image_of(alloc, parts)?.as_slice());
-        assert_eq!(rt; after.calls(), 2);
+        assert_eq!(rt; after.calls(), calls);
     }
     Ok(())
 }
@@ -115,7 +137,8 @@ fn images_are_listed(rt: HostRuntime) -> Result<(), Fail> {
 #[test]
 fn images_are_refused_by_their_fields(rt: HostRuntime) -> Result<(), Fail> {
     let alloc = rt.alloc();
-    let cases: [(Part, &str); 13] = [
+    let cases: [(Part, &str); 14] = [
+        ((131_071, &[0]), "image foreign-work\n"),
         ((16, &[0]), "image volume 16\n"),
         ((32, &[1]), "image volume 32\n"),
         ((40, &[0]), "image volume 40\n"),
@@ -176,8 +199,8 @@ fn a_format_leaves_a_blank_image(rt: HostRuntime) -> Result<(), Fail> {
 #[test]
 fn failed_calls_of_the_flash_are_device_faults(rt: HostRuntime) -> Result<(), Fail> {
     let alloc = rt.alloc();
-    // A list makes two calls, a format 33.
-    for (verb, calls) in [("list", 2), ("format", 33)] {
+    // A list makes 18 calls, a format 33.
+    for (verb, calls) in [("list", 18), ("format", 33)] {
         for number in 0..calls {
             let left = call(alloc, verb, image_of(alloc, &[])?, &[number], &[])?;
             assert_eq!(rt; left.status, 7, "{verb} {number}");

@@ -1,7 +1,7 @@
 use Rattle.std.proofs.Common.{◌≡◌, Err, IfOk, subst}
 use Rattle.flash_dev.specs.Rules.{Leaves}
 use Rattle.ftw_mount.specs.declared.mount_fault.MountFault.TheVariants.{ForeignWork}
-use Rattle.ftw_mount.specs.Mount.{Describes, IsMounted, IsMountLeft}
+use Rattle.ftw_mount.specs.Mount.{Describes, HasUsedSlots, IsMountLeft}
 use Rattle.ftw_mount.proofs.Mounts.{mount_stays, read_moments, told_now}
 use Rattle.ftw_work.proofs.Told.{reads_first, told_same}
 use Rattle.var_types.specs.Kept.{IsForeign}
@@ -14,7 +14,7 @@ settle-requires-clause-describes g c =
 
 pub returns-clause-mounted : goal.returns-clause-mounted
 returns-clause-mounted g c =
-    subst (λ told. IfOk c.settle.result (λ slots. Leaves (IsMounted slots) told (g.F.Flash.holds c.settle.new.flash))) c.look_over.ensures.kept
+    subst (λ told. IfOk c.settle.result (λ slots. Leaves (HasUsedSlots slots) told (g.F.Flash.holds c.settle.new.flash))) c.look_over.ensures.kept
     c.settle.ensures.mounted
 
 pub returns-clause-foreign : goal.returns-clause-foreign

@@ -1,5 +1,5 @@
 use Rattle.std.proofs.Common.{◌+◌}
-use Rattle.ftw_mount.specs.Mount.{IsFreed, IsPrepared}
+use Rattle.ftw_mount.specs.Mount.{HasUsedSlots, IsPrepared}
 use Rattle.ftw_mount.proofs.Writes.{is_clean, kept_or, kept_then_or, now_freed, ready, told_further, told_still, written_after}
 use Rattle.ftw_work.proofs.Told.{content_moments}
 use Rattle.ftw_mount.proofs.writing.write_volume.Goals as goal
@@ -20,7 +20,7 @@ returns-clause-written g c =
     let now = g.F.Flash.holds c.free_slot.new.flash in
     let next = g.F.Flash.holds c.prepare.new.flash in
     written_after c.args.content.now (c.in_ok-slot.slot + 1) old next (g.F.Flash.holds c.commit.new.flash)
-    (told_further old now next (told_still (IsFreed c.in_ok-slot.slot) old now c.in_ok-slot.ensures.freed)
+    (told_further old now next (told_still (HasUsedSlots c.in_ok-slot.slot) old now c.in_ok-slot.ensures.freed)
     (told_still (IsPrepared c.args.content.now) now next c.in_ok-prepare.ensures.prepared))
     c.in_ok-commit.ensures.written
 

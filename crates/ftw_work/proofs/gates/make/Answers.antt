@@ -1,18 +1,16 @@
 use Rattle.std.proofs.Common.{arith, lit≤, refl}
-use Rattle.flash_dev.specs.Rules.{Leaves, programmed}
-use Rattle.ftw_work.specs.Work.{IsWorkLeft}
-use Rattle.var_types.specs.declared.work_state.WorkState.TheVariants.{Clean}
+use Rattle.std.proofs.lemmas.Result.{on_ok_weaker}
 use Rattle.ftw_work.proofs.Makes.{made_told, work_moments}
-use Rattle.ftw_work.proofs.Steps.{erase_moments, image_sized, ok_weaken, outside_moments, program_moments}
+use Rattle.ftw_work.proofs.Steps.{erase_moments, image_sized, outside_moments, program_moments}
 use Rattle.ftw_work.proofs.gates.make.Goals as goal
 
 pub returns-clause-made : goal.returns-clause-made
 returns-clause-made g c =
-    ok_weaken c.program-2.result _ (Leaves (IsWorkLeft (Clean 0)) (g.F.Flash.holds c.args.flash.now) (g.F.Flash.holds c.program-2.new.self))
-    c.program-2.ensures.programmed
+    on_ok_weaker c.program-2.result
     (made_told _ (g.F.Flash.holds c.args.flash.now) (g.F.Flash.holds c.erase.new.self) (g.F.Flash.holds c.program.new.self)
     (g.F.Flash.holds c.program-2.new.self) refl (image_sized _ _ c.requires.size (g.met.F.Flash.sized c.args.flash.now)) c.in_ok-erase.ensures.erased
     c.in_ok-program.ensures.programmed)
+    c.program-2.ensures.programmed
 
 pub returns-clause-at_any_moment : goal.returns-clause-at_any_moment
 returns-clause-at_any_moment g c =

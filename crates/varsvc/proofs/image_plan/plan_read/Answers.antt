@@ -1,15 +1,15 @@
-use Rattle.std.proofs.Common.{◌≡◌, ℕ, List, take, drop, IfSome, subst}
-use Rattle.varsvc.specs.Outcome.{list_row}
-use Rattle.varsvc.proofs.PlannedTexts.{text_done}
-use Rattle.varsvc.proofs.Plans.{line_text}
-use Rattle.varsvc.proofs.Volumes.{volume_listing, volume_lists}
+use Rattle.std.proofs.Common.{◌≡◌, ℕ, IfSome, List, length, sym, subst}
+use Rattle.varsvc.specs.Outcome.{IsText, list_row}
+use Rattle.varsvc.specs.Plan.{status_of, text_of}
+use Rattle.varsvc.proofs.Volumes.{is_read}
 use Rattle.varsvc.proofs.image_plan.plan_read.Goals as goal
 
 pub returns-in-Ok-clause-text : goal.returns-in-Ok-clause-text
-returns-in-Ok-clause-text g c = λ accepts.
+returns-in-Ok-clause-text g c =
     let told = g.F.Flash.holds c.args.flash.now in
-    let size = g.F.Flash.size c.args.flash.now in
-    let volume = c.read.new.into in
-    let read = subst (λ (n : ℕ). IfSome told (λ (bytes : List ℕ). volume ≡ take n (drop 0 bytes))) c.requires.volume c.in-Ok.ensures.bytes in
-    line_text (list_row told size) 0 (volume_listing volume) c.plan_listing.result
-    (text_done (list_row told size) (volume_listing volume) (volume_lists told size volume c.requires.size accepts read)) c.plan_listing.ensures
+    let plan = c.plan_content.result in
+    let whole = subst (λ (n : ℕ). IfSome told (λ (cells : List ℕ). length cells ≡ n)) c.requires.size (g.met.F.Flash.sized c.args.flash.now) in
+    subst (λ (n : ℕ). IsText (list_row told n) (status_of plan) (text_of plan)) (sym c.requires.size)
+    (c.plan_content.ensures.text told
+    (is_read c.in-Ok.kept c.read_kept.new.into told whole c.in-Ok.ensures.describes
+    c.in-Ok.ensures.content))

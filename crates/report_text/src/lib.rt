@@ -3,7 +3,9 @@
 
 mod listing;
 mod part;
+mod rule;
 mod stamp;
+mod status;
 #[cfg(test)]
 mod tests;
 mod variables;
@@ -11,4 +13,5 @@ mod word;
 
 pub use listing::write_listing;
 pub use part::{Part, write_line, write_parts};
+pub use status::Status;
 pub use word::Word;

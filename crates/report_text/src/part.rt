@@ -1,16 +1,19 @@
 ghost use Rattle.std.specs.Prelude.{map};
 ghost use Rattle.report_text.specs.Line.{part_text, later_parts_text, parts_text, line_text};
 
-use crate::Word;
+use crate::rule::rule_text;
 use crate::stamp::write_stamp;
+use crate::{Status, Word};
 use script_text::write_call;
 use var_types::text::{write_attributes, write_bytes, write_name, write_number};
-use var_types::{Call, Guid, Put, Stamp};
+use var_types::{Call, Guid, Put, Rule, Stamp};
 
 /// A part of a line that is printed.
 #[derive(Clone, Copy, Debug)]
 pub enum Part<'a> {
     Word(Word),
+    Status(Status),
+    Rule(Rule),
     Number(u64),
     Attributes(u32),
     Bytes(&'a [u8]),
@@ -25,6 +28,8 @@ fn write_part<P: Put>(part: &Part, out: &mut P)
 {
     match part {
         Part::Word(word) => out.put(word.text().as_bytes()),
+        Part::Status(status) => out.put(status.text().as_bytes()),
+        Part::Rule(rule) => out.put(rule_text(*rule).as_bytes()),
         Part::Number(n) => write_number(*n, out),
         Part::Attributes(n) => write_attributes(*n, out),
         Part::Bytes(bytes) => write_bytes(bytes, out),

@@ -24,7 +24,9 @@ use Rattle.var_types.specs.declared.reply.SetReply.{SetReply}
 use Rattle.var_types.specs.declared.reply.SetReply.TheVariants as set
 use Rattle.var_types.specs.Step.{IsOfKind}
 use Rattle.varsvc.specs.Values.{HasValues, HasValuesOfExit, HasValuesOfGet, HasValuesOfNext, HasValuesOfFault, HasValuesOfReason, HasValuesOfSet}
-use Rattle.varsvc.specs.Replies.{reply_text, rule_status, rule_word}
+use Rattle.varsvc.specs.Replies.{reply_text, rule_status}
+use Rattle.report_text.specs.Rule.{rule_text}
+use Rattle.report_text.specs.Status.{status_text}
 use Rattle.report_text.specs.Word.{word_text}
 use Rattle.varsvc.proofs.ReplyWords.{exit_words, get_words, next_words, fault_words, reason_words, set_words, reply_words, reply_text-words, HaveWords-reply}
 use Rattle.varsvc.proofs.SameNames.{same_names}
@@ -55,7 +57,7 @@ same_get (get.Ok a xs) (get.Ok b ys) h k e =
     let bytes : xs ≡ ys = same_bytes xs ys h.1 k.1 (ap (word_at 2) e) in
     cc
 same_get get.OutOfMemory get.OutOfMemory h k e = refl
-same_get r s h k e = unfold word_text in
+same_get r s h k e = unfold status_text word_text in
     let first : number_at 0 (get_words r) ≡ number_at 0 (get_words s) = ap (number_at 0) e in
     absurd (omega (arith, first))
 
@@ -73,7 +75,7 @@ same_next (next.Ok a) (next.Ok b) h k e =
     let same : a ≡ b = ap (λ g. key g a.name) guid ∙ ap (key b.guid) name in
     cc
 same_next next.OutOfMemory next.OutOfMemory h k e = refl
-same_next r s h k e = unfold word_text in
+same_next r s h k e = unfold status_text in
     let first : number_at 0 (next_words r) ≡ number_at 0 (next_words s) = ap (number_at 0) e in
     absurd (omega (arith, first))
 
@@ -139,7 +141,7 @@ tag_by status word =
 
 -- a reason's words tell its number
 tag_is : (r : SetReason) → tag_by (code (word_at 0 (reason_words r))) (code (word_at 1 (reason_words r))) ≡ tag r
-unfolding word_text tag_by
+unfolding status_text word_text tag_by
 tag_is (reason.Name fault) = refl
 tag_is (reason.Unsupported bits) = refl
 tag_is (reason.Unknown bits) = refl
@@ -160,7 +162,7 @@ tag_is (reason.Room need have) = refl
 tag_is (reason.HistoryFull made) = refl
 
 -- rules with the same word
-same_rule : (a b : Rule) → word_text (rule_word a) ≡ word_text (rule_word b) → a ≡ b
+same_rule : (a b : Rule) → rule_text a ≡ rule_text b → a ≡ b
 same_rule rules.MinSize rules.MinSize e = refl
 same_rule rules.MaxSize rules.MaxSize e = refl
 same_rule rules.Must rules.Must e = refl
@@ -168,8 +170,8 @@ same_rule rules.Cant rules.Cant e = refl
 same_rule rules.LockNow rules.LockNow e = refl
 same_rule rules.LockOnCreate rules.LockOnCreate e = refl
 same_rule rules.LockOnState rules.LockOnState e = refl
-same_rule a b e = unfold word_text in
-    let same : fold (λ n c. n * 256 + c) 0 (word_text (rule_word a)) ≡ fold (λ n c. n * 256 + c) 0 (word_text (rule_word b)) = ap (fold (λ n c. n * 256 + c) 0) e in
+same_rule a b e = unfold rule_text in
+    let same : fold (λ n c. n * 256 + c) 0 (rule_text a) ≡ fold (λ n c. n * 256 + c) 0 (rule_text b) = ap (fold (λ n c. n * 256 + c) 0) e in
     absurd (omega (arith, same))
 
 -- refusals with the same words
@@ -226,9 +228,9 @@ same_reason r s h k e =
     absurd (omega (arith, tags))
 
 -- the status of a denial is neither that of success nor that of a call out of memory
-denied_status : (rule : Rule) → (number_at 0 (word_text (rule_status rule) ∷ []) ≡ number_at 0 (set_words set.Ok) → ⊥)
-    × (number_at 0 (word_text (rule_status rule) ∷ []) ≡ number_at 0 (set_words set.OutOfMemory) → ⊥)
-unfolding word_text
+denied_status : (rule : Rule) → (number_at 0 (status_text (rule_status rule) ∷ []) ≡ number_at 0 (set_words set.Ok) → ⊥)
+    × (number_at 0 (status_text (rule_status rule) ∷ []) ≡ number_at 0 (set_words set.OutOfMemory) → ⊥)
+unfolding status_text
 denied_status rules.MinSize = (omega arith, omega arith)
 denied_status rules.MaxSize = (omega arith, omega arith)
 denied_status rules.Must = (omega arith, omega arith)
@@ -239,7 +241,7 @@ denied_status rules.LockOnState = (omega arith, omega arith)
 
 -- a refusal's first word is neither that of success nor that of a call out of memory
 refused : (r : SetReason) → (number_at 0 (reason_words r) ≡ number_at 0 (set_words set.Ok) → ⊥) × (number_at 0 (reason_words r) ≡ number_at 0 (set_words set.OutOfMemory) → ⊥)
-unfolding word_text
+unfolding status_text word_text
 refused (reason.Name x) = (omega arith, omega arith)
 refused (reason.Unsupported bits) = (omega arith, omega arith)
 refused (reason.Unknown bits) = (omega arith, omega arith)
@@ -273,7 +275,7 @@ same_set (set.Refused x) set.OutOfMemory h k e = absurd ((refused x).1 (ap (numb
 same_set set.Ok (set.Refused y) h k e = absurd ((refused y).0 (ap (number_at 0) (sym e)))
 same_set set.Same (set.Refused y) h k e = absurd ((refused y).0 (ap (number_at 0) (sym e)))
 same_set set.OutOfMemory (set.Refused y) h k e = absurd ((refused y).1 (ap (number_at 0) (sym e)))
-same_set r s h k e = unfold word_text in
+same_set r s h k e = unfold status_text word_text in
     let first : number_at 0 (set_words r) ≡ number_at 0 (set_words s) = ap (number_at 0) e in
     let second : number_at 1 (set_words r) ≡ number_at 1 (set_words s) = ap (number_at 1) e in
     absurd (omega (arith, first, second))
@@ -285,7 +287,7 @@ same_exit exit.Same exit.Same h k e = refl
 same_exit (exit.HistoryFull m) (exit.HistoryFull n) h k e =
     let made : m ≡ n = decimal_injective m n h k (ap (word_at 2) e) in
     cc
-same_exit r s h k e = unfold word_text in
+same_exit r s h k e = unfold status_text word_text in
     let first : number_at 0 (exit_words r) ≡ number_at 0 (exit_words s) = ap (number_at 0) e in
     let second : number_at 1 (exit_words r) ≡ number_at 1 (exit_words s) = ap (number_at 1) e in
     absurd (omega (arith, first, second))

@@ -13,7 +13,13 @@ use Rattle.var_types.specs.Guid.{guid_text}
 use Rattle.var_types.specs.Texts.{attributes_text, bytes_text, escaped_text, is_dash, is_plain, name_text, spaced, unit_text}
 use Rattle.report_text.specs.declared.word.Word.{Word}
 use Rattle.report_text.specs.declared.word.Word.TheVariants as word
+use Rattle.report_text.specs.Rule.{rule_text}
+use Rattle.report_text.specs.Status.{status_text}
 use Rattle.report_text.specs.Word.{word_text}
+use Rattle.report_text.specs.declared.status.Status.{Status}
+use Rattle.report_text.specs.declared.status.Status.TheVariants as status
+use Rattle.var_types.specs.declared.ask.Rule.{Rule}
+use Rattle.var_types.specs.declared.ask.Rule.TheVariants as rules
 
 -- whether a byte may stand in a line: all but LF may
 abbrev pub is_line_byte : ℕ → Bool
@@ -180,3 +186,15 @@ pub IsWord-word_text : (w : Word) → IsWord (word_text w)
 unfolding word_text
 IsWord-word_text word.History = refl
 IsWord-word_text _ = refl
+
+-- those of a status
+pub IsWord-status_text : (w : Status) → IsWord (status_text w)
+unfolding status_text
+IsWord-status_text status.Success = refl
+IsWord-status_text _ = refl
+
+-- those of a rule
+pub IsWord-rule_text : (r : Rule) → IsWord (rule_text r)
+unfolding rule_text
+IsWord-rule_text rules.MinSize = refl
+IsWord-rule_text _ = refl

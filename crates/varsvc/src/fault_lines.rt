@@ -63,7 +63,10 @@ pub fn write_image_line<P: Put>(fault: ImageFault, out: &mut P)
 pub fn write_foreign_line<P: Put>(out: &mut P)
     ensures { P.Puts out.old out.new foreign_line }
 {
-    write_line(&[Part::Word(Word::Image), Part::Word(Word::ForeignWork)], out)
+    write_line(
+        &[Part::Word(Word::Image), Part::Word(Word::ForeignWork)],
+        out,
+    )
 }
 
 /// Puts the line for refused words.

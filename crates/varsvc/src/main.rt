@@ -16,6 +16,8 @@ mod program;
 #[cfg(test)]
 mod program_tests;
 mod replies;
+#[cfg(test)]
+mod reply_tests;
 mod report;
 mod run_plan;
 mod session;

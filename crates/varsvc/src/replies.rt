@@ -1,14 +1,15 @@
 ghost use Rattle.std.specs.Prelude.{◌≡◌, [], ◌∷◌, decimal};
+ghost use Rattle.report_text.specs.Status.{status_text};
 ghost use Rattle.report_text.specs.Word.{word_text};
 ghost use Rattle.report_text.specs.declared.word.Word.TheVariants as word;
 ghost use Rattle.var_types.specs.Guid.{IsGuid, guid_text};
 ghost use Rattle.var_types.specs.Texts.{attributes_text, name_text, spaced};
 ghost use Rattle.var_types.specs.declared.set_reason.SetReason.TheVariants as reason;
 ghost use Rattle.var_types.specs.Values.{AreBytes, AreUnits};
-ghost use Rattle.varsvc.specs.Replies.{exit_reply_text, get_reply_text, next_reply_text, name_fault_text, reason_text, rule_status, rule_word, set_reply_text, reply_text};
+ghost use Rattle.varsvc.specs.Replies.{exit_reply_text, get_reply_text, next_reply_text, name_fault_text, reason_text, rule_status, set_reply_text, reply_text};
 ghost use Rattle.varsvc.specs.Values.{HasValues, HasValuesOfExit, HasValuesOfFault, HasValuesOfGet, HasValuesOfNext, HasValuesOfReason, HasValuesOfSet};
 
-use report_text::{Part, Word, write_parts};
+use report_text::{Part, Status, Word, write_parts};
 use var_types::text::write_name;
 use var_types::{
     ExitReply, GetReply, Key, NameFault, NextReply, Put, Reply, Rule, SetReason, SetReply, Stamp,
@@ -20,18 +21,21 @@ fn write_get_reply<P: Put>(reply: &GetReply, out: &mut P)
     ensures values { HasValuesOfGet reply.now }
 {
     match reply {
-        GetReply::NotFound => write_parts(&[Part::Word(Word::NotFound)], out),
+        GetReply::NotFound => write_parts(&[Part::Status(Status::NotFound)], out),
         GetReply::TooSmall { attributes, needed } => {
             let attributes = Part::Attributes(*attributes);
             let needed = Part::Number(u64::from(*needed));
-            write_parts(&[Part::Word(Word::BufferTooSmall), attributes, needed], out)
+            write_parts(
+                &[Part::Status(Status::BufferTooSmall), attributes, needed],
+                out,
+            )
         }
         GetReply::Ok { attributes, bytes } => {
             let attributes = Part::Attributes(*attributes);
             let bytes = Part::Bytes(bytes.as_slice());
-            write_parts(&[Part::Word(Word::Success), attributes, bytes], out)
+            write_parts(&[Part::Status(Status::Success), attributes, bytes], out)
         }
-        GetReply::OutOfMemory => write_parts(&[Part::Word(Word::NoMemory)], out),
+        GetReply::OutOfMemory => write_parts(&[Part::Status(Status::NoMemory)], out),
     }
 }
 
@@ -52,21 +56,29 @@ fn write_next_reply<P: Put>(reply: &NextReply, out: &mut P)
     match reply {
         NextReply::NoSuch => {
             write_parts(
-                &[Part::Word(Word::InvalidParameter), Part::Word(Word::NoSuch)],
+                &[
+                    Part::Status(Status::InvalidParameter),
+                    Part::Word(Word::NoSuch),
+                ],
                 out,
             )
         }
-        NextReply::End => { write_parts(&[Part::Word(Word::NotFound), Part::Word(Word::End)], out) }
+        NextReply::End => {
+            write_parts(
+                &[Part::Status(Status::NotFound), Part::Word(Word::End)],
+                out,
+            )
+        }
         NextReply::TooSmall { needed } => {
             let needed = Part::Number(u64::from(*needed));
-            write_parts(&[Part::Word(Word::BufferTooSmall), needed], out)
+            write_parts(&[Part::Status(Status::BufferTooSmall), needed], out)
         }
         NextReply::Ok { key } => {
-            write_parts(&[Part::Word(Word::Success)], out);
+            write_parts(&[Part::Status(Status::Success)], out);
             out.put(b" ");
             write_key(key, out)
         }
-        NextReply::OutOfMemory => write_parts(&[Part::Word(Word::NoMemory)], out),
+        NextReply::OutOfMemory => write_parts(&[Part::Status(Status::NoMemory)], out),
     }
 }
 
@@ -75,7 +87,7 @@ fn write_name_fault<P: Put>(fault: NameFault, out: &mut P)
     ensures text { P.Puts out.old out.new (name_fault_text fault) }
     ensures values { HasValuesOfFault fault }
 {
-    let invalid = Part::Word(Word::InvalidParameter);
+    let invalid = Part::Status(Status::InvalidParameter);
     let name = Part::Word(Word::Name);
     match fault {
         NameFault::Empty => write_parts(&[invalid, name, Part::Word(Word::Empty)], out),
@@ -92,53 +104,39 @@ fn write_name_fault<P: Put>(fault: NameFault, out: &mut P)
     }
 }
 
-fn rule_status(rule: Rule) -> Word
+fn rule_status(rule: Rule) -> Status
     ensures { result ≡ rule_status rule }
 {
     match rule {
-        Rule::MinSize | Rule::MaxSize | Rule::Must | Rule::Cant => Word::InvalidParameter,
-        Rule::LockNow | Rule::LockOnCreate | Rule::LockOnState => Word::WriteProtected,
-    }
-}
-
-fn rule_word(rule: Rule) -> Word
-    ensures { result ≡ rule_word rule }
-{
-    match rule {
-        Rule::MinSize => Word::MinSize,
-        Rule::MaxSize => Word::MaxSize,
-        Rule::Must => Word::Must,
-        Rule::Cant => Word::Cant,
-        Rule::LockNow => Word::LockNow,
-        Rule::LockOnCreate => Word::LockOnCreate,
-        Rule::LockOnState => Word::LockOnState,
+        Rule::MinSize | Rule::MaxSize | Rule::Must | Rule::Cant => Status::InvalidParameter,
+        Rule::LockNow | Rule::LockOnCreate | Rule::LockOnState => Status::WriteProtected,
     }
 }
 
 /// Puts a status and a reason without numbers.
-fn write_two<P: Put>(status: Word, reason: Word, out: &mut P)
-    ensures { P.Puts out.old out.new (spaced (word_text status ∷ word_text reason ∷ [])) }
+fn write_two<P: Put>(status: Status, reason: Word, out: &mut P)
+    ensures { P.Puts out.old out.new (spaced (status_text status ∷ word_text reason ∷ [])) }
 {
-    write_parts(&[Part::Word(status), Part::Word(reason)], out)
+    write_parts(&[Part::Status(status), Part::Word(reason)], out)
 }
 
 /// Puts a status, a reason, and a number.
-fn write_number_reason<P: Put>(status: Word, reason: Word, n: u64, out: &mut P)
-    ensures { P.Puts out.old out.new (spaced (word_text status ∷ word_text reason ∷ decimal n ∷ [])) }
+fn write_number_reason<P: Put>(status: Status, reason: Word, n: u64, out: &mut P)
+    ensures { P.Puts out.old out.new (spaced (status_text status ∷ word_text reason ∷ decimal n ∷ [])) }
 {
     write_parts(
-        &[Part::Word(status), Part::Word(reason), Part::Number(n)],
+        &[Part::Status(status), Part::Word(reason), Part::Number(n)],
         out,
     )
 }
 
 /// Puts a status, a reason, and two numbers.
-fn write_numbers_reason<P: Put>(status: Word, reason: Word, m: u64, n: u64, out: &mut P)
-    ensures { P.Puts out.old out.new (spaced (word_text status ∷ word_text reason ∷ decimal m ∷ decimal n ∷ [])) }
+fn write_numbers_reason<P: Put>(status: Status, reason: Word, m: u64, n: u64, out: &mut P)
+    ensures { P.Puts out.old out.new (spaced (status_text status ∷ word_text reason ∷ decimal m ∷ decimal n ∷ [])) }
 {
     write_parts(
         &[
-            Part::Word(status),
+            Part::Status(status),
             Part::Word(reason),
             Part::Number(m),
             Part::Number(n),
@@ -148,12 +146,12 @@ fn write_numbers_reason<P: Put>(status: Word, reason: Word, m: u64, n: u64, out:
 }
 
 /// Puts a status and bits.
-fn write_bits<P: Put>(status: Word, bits: u32, out: &mut P)
-    ensures { P.Puts out.old out.new (spaced (word_text status ∷ word_text word.Bits ∷ attributes_text bits ∷ [])) }
+fn write_bits<P: Put>(status: Status, bits: u32, out: &mut P)
+    ensures { P.Puts out.old out.new (spaced (status_text status ∷ word_text word.Bits ∷ attributes_text bits ∷ [])) }
 {
     write_parts(
         &[
-            Part::Word(status),
+            Part::Status(status),
             Part::Word(Word::Bits),
             Part::Attributes(bits),
         ],
@@ -167,7 +165,7 @@ fn write_attributes_reason<P: Put>(stored: u32, asked: u32, out: &mut P)
 {
     write_parts(
         &[
-            Part::Word(Word::InvalidParameter),
+            Part::Status(Status::InvalidParameter),
             Part::Word(Word::Attributes),
             Part::Attributes(stored),
             Part::Attributes(asked),
@@ -182,10 +180,10 @@ fn write_denied<P: Put>(place: u32, rule: Rule, out: &mut P)
 {
     write_parts(
         &[
-            Part::Word(rule_status(rule)),
+            Part::Status(rule_status(rule)),
             Part::Word(Word::Denied),
             Part::Number(u64::from(place)),
-            Part::Word(rule_word(rule)),
+            Part::Rule(rule),
         ],
         out,
     )
@@ -208,7 +206,7 @@ fn write_stamps<'x, P: Put>(stored: &'x Stamp, new: &'x Stamp, out: &mut P)
 {
     write_parts(
         &[
-            Part::Word(Word::SecurityViolation),
+            Part::Status(Status::SecurityViolation),
             Part::Word(Word::Stamp),
             Part::Bytes(stamp_bytes(stored)),
             Part::Bytes(stamp_bytes(new)),
@@ -222,12 +220,12 @@ fn write_reason<P: Put>(reason: SetReason, out: &mut P)
     ensures text { P.Puts out.old out.new (reason_text reason) }
     ensures values { HasValuesOfReason reason }
 {
-    let invalid = Word::InvalidParameter;
-    let locked = Word::WriteProtected;
-    let insecure = Word::SecurityViolation;
+    let invalid = Status::InvalidParameter;
+    let locked = Status::WriteProtected;
+    let insecure = Status::SecurityViolation;
     match reason {
         SetReason::Name(fault) => write_name_fault(fault, out),
-        SetReason::Unsupported { bits } => write_bits(Word::Unsupported, bits, out),
+        SetReason::Unsupported { bits } => write_bits(Status::Unsupported, bits, out),
         SetReason::Unknown { bits } => write_bits(invalid, bits, out),
         SetReason::RuntimeWithoutBoot => write_two(invalid, Word::RuntimeWithoutBoot, out),
         SetReason::Hidden => write_two(invalid, Word::Hidden, out),
@@ -242,7 +240,7 @@ fn write_reason<P: Put>(reason: SetReason, out: &mut P)
             write_numbers_reason(invalid, Word::Size, have, u64::from(limit), out)
         }
         SetReason::Denied { place, rule } => write_denied(place, rule, out),
-        SetReason::Missing => write_two(Word::NotFound, Word::Missing, out),
+        SetReason::Missing => write_two(Status::NotFound, Word::Missing, out),
         SetReason::NeedsAuthentication => write_two(locked, Word::Authentication, out),
         SetReason::AttributesDiffer { stored, asked } => {
             write_attributes_reason(stored, asked, out)
@@ -253,14 +251,14 @@ fn write_reason<P: Put>(reason: SetReason, out: &mut P)
             write_numbers_reason(invalid, Word::AppendSize, have, u64::from(limit), out)
         }
         SetReason::Room { need, have } => write_numbers_reason(
-            Word::OutOfResources,
+            Status::OutOfResources,
             Word::Room,
             u64::from(need),
             u64::from(have),
             out,
         ),
         SetReason::HistoryFull { made } => {
-            write_number_reason(Word::OutOfResources, Word::History, made, out)
+            write_number_reason(Status::OutOfResources, Word::History, made, out)
         }
     }
 }
@@ -271,10 +269,13 @@ fn write_set_reply<P: Put>(reply: &SetReply, out: &mut P)
     ensures values { HasValuesOfSet reply.now }
 {
     match reply {
-        SetReply::Ok => write_parts(&[Part::Word(Word::Success)], out),
-        SetReply::Same => write_parts(&[Part::Word(Word::Success), Part::Word(Word::Same)], out),
+        SetReply::Ok => write_parts(&[Part::Status(Status::Success)], out),
+        SetReply::Same => write_parts(
+            &[Part::Status(Status::Success), Part::Word(Word::Same)],
+            out,
+        ),
         SetReply::Refused(reason) => write_reason(*reason, out),
-        SetReply::OutOfMemory => write_parts(&[Part::Word(Word::NoMemory)], out),
+        SetReply::OutOfMemory => write_parts(&[Part::Status(Status::NoMemory)], out),
     }
 }
 
@@ -284,10 +285,10 @@ fn write_exit_reply<P: Put>(reply: ExitReply, out: &mut P)
     ensures values { HasValuesOfExit reply }
 {
     match reply {
-        ExitReply::Ok => write_parts(&[Part::Word(Word::Success)], out),
-        ExitReply::Same => write_two(Word::Success, Word::Same, out),
+        ExitReply::Ok => write_parts(&[Part::Status(Status::Success)], out),
+        ExitReply::Same => write_two(Status::Success, Word::Same, out),
         ExitReply::HistoryFull { made } => {
-            write_number_reason(Word::OutOfResources, Word::History, made, out)
+            write_number_reason(Status::OutOfResources, Word::History, made, out)
         }
     }
 }

@@ -107,9 +107,9 @@ fn scripts_are_run(rt: HostRuntime) -> Result<(), Fail> {
             b"script line 1 later\n",
         ),
         (
-            b"0 set 8be4df61-93ca-11d2-aa0d-00e098032b8c A 7 01\n",
+            b"0 set 8be4df61-93ca-11d2-aa0d-00e098032b8c A 7 01 perhaps\n",
             3,
-            b"script line 1 later\n",
+            b"script line 1 verdict\n",
         ),
     ];
     for (script, status, text) in cases {

@@ -1,14 +1,13 @@
 -- Bytes that are alike within a range: the same records and live records are read there.
-use Rattle.std.proofs.Common.{◌≡◌, ℕ, ◌+◌, ◌-◌, ◌≤◌, ◌<◌, ◌&&◌, ◌||◌, not, Bool, true, false, cond, List, [], ◌∷◌, ◌++◌, length, take, drop, get_or, nat_lt, if◌then◌else◌, refl, sym, ap, subst, ◌∙◌, arith, length-take, length-drop, set, length-set, Option, Some, None, Result, Ok, Err}
+use Rattle.std.proofs.Common.{◌≡◌, ℕ, ◌+◌, ◌-◌, ◌≤◌, ◌<◌, ◌&&◌, ◌||◌, not, Bool, true, false, cond, List, [], ◌∷◌, ◌++◌, length, take, drop, get_or, nat_lt, if◌then◌else◌, refl, sym, ap, ◌∙◌, arith, length-take, length-drop, set, length-set, Option, Some, None, Ok, Err}
 use Rattle.std.proofs.lemmas.List.{ext_get_or, get_or-drop, get_or-set_other, get_or-take}
 use Rattle.var_header.proofs.Fronts.{same_header, same_start_id}
-use Rattle.var_header.specs.declared.header.Header.{Header}
 use Rattle.var_header.specs.declared.header_fault.HeaderFault.TheVariants.{NoStart, PastEnd}
-use Rattle.var_header.specs.Header.{has_start_id, header_of, header_read}
+use Rattle.var_header.specs.Header.{header_read}
 use Rattle.var_types.specs.Attributes.{has, non_volatile_bit}
 use Rattle.var_types.specs.declared.record.Record.{Record}
 use Rattle.var_types.specs.declared.record_state.RecordState.{RecordState}
-use Rattle.var_types.specs.Live.{Live, data_bytes, live_in_state, live_named, live_of, lives, name_bytes, name_in, with_live}
+use Rattle.var_types.specs.Live.{data_bytes, live_in_state, live_named, live_of, lives, name_bytes, name_in, with_live}
 use Rattle.var_types.specs.Record.{Authenticated, HasRecords, next_offset, record_at, record_of, tail_from, whole_size}
 use Rattle.var_types.specs.RecordState.{record_state}
 use Rattle.var_region.proofs.Read.{AreRead, next_behind, next_onward, place_of, tail_onward}

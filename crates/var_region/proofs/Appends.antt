@@ -1,27 +1,23 @@
 -- An append at a clean tail adds one record, and puts its variable into the map.
-use Rattle.std.proofs.Common.{◌≡◌, ℕ, ◌+◌, ◌*◌, ◌≤◌, ◌<◌, ◌||◌, not, Bool, true, false, List, [], ◌∷◌, ◌++◌, length, take, drop, refl, sym, ap, subst, ◌∙◌, arith, append_assoc, length-append, Some}
+use Rattle.std.proofs.Common.{◌≡◌, ℕ, ◌+◌, ◌*◌, ◌≤◌, ◌<◌, ◌||◌, not, Bool, true, false, List, [], ◌∷◌, ◌++◌, length, take, drop, refl, sym, ap, ◌∙◌, arith, append_assoc, length-append, Some}
 use Rattle.std.proofs.lemmas.List.{drop-drop, drop_at, take_at}
-use Rattle.std.specs.BTreeMap.{insert_entry}
-use Rattle.std.specs.List.{list_any}
 use Rattle.var_header.proofs.Headers.{length-header_bytes}
 use Rattle.var_header.specs.Header.{header_bytes}
 use Rattle.var_types.proofs.Placed.{here_placed}
 use Rattle.var_types.specs.Attributes.{has, non_volatile_bit}
-use Rattle.var_types.specs.Chosen.{is_added}
-use Rattle.var_types.specs.Key.{key_cmp}
-use Rattle.var_types.specs.Live.{Live, data_bytes, live_of, name_bytes, name_in, with_live}
+use Rattle.var_types.specs.Live.{data_bytes, live_of, name_bytes, name_in, with_live}
 use Rattle.var_types.specs.Placed.{placed}
 use Rattle.var_types.specs.Record.{Authenticated}
 use Rattle.var_types.specs.Region.{Region, map_of, region_lives, region_map, region_records, tail_offset}
 use Rattle.var_region.specs.declared.new_record.NewRecord.{NewRecord}
-use Rattle.var_region.specs.NewRecord.{IsNew, IsOfStore, new_body, new_bytes, new_header, new_key, new_live, new_record, new_size, new_variable, unit_bytes}
+use Rattle.var_region.specs.NewRecord.{IsNew, IsOfStore, new_body, new_bytes, new_header, new_live, new_record, new_variable, unit_bytes}
 use Rattle.var_region.specs.WritingLaws.{AppendsAddOneLiveRecord, AppendsAddOneRecord, AppendsPutTheirVariable}
 use Rattle.var_region.specs.Written.{FitsBehind, appended}
 use Rattle.var_region.proofs.Begun.{BegunRecordsStand-all, begun_lives}
 use Rattle.var_region.proofs.Names.{name_again}
 use Rattle.var_region.proofs.NewRecords.{IsHeader-new, length-new_bytes, length-unit_bytes}
 use Rattle.var_region.proofs.Steps.{begun_whole}
-use Rattle.var_region.proofs.Stored.{each_region, live_from, live_with}
+use Rattle.var_region.proofs.Stored.{each_region, live_from}
 use Rattle.var_region.proofs.WhichCounts.{AddedPutTheirVariable-all}
 
 pub AppendsAddOneRecord-all : AppendsAddOneRecord

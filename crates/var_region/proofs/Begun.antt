@@ -1,16 +1,15 @@
 -- Where a new record's header stands at a clean tail, its record is one more, whatever stands in place of its name and data.
-use Rattle.std.proofs.Common.{◌≡◌, ◌≢◌, ℕ, ◌+◌, ◌*◌, ◌≤◌, ◌<◌, ◌^◌, ◌==◌, ◌||◌, Bool, true, false, List, [], ◌∷◌, ◌++◌, length, take, drop, refl, sym, ap, subst, ◌∙◌, arith, None, Some}
+use Rattle.std.proofs.Common.{◌≡◌, ℕ, ◌+◌, ◌*◌, ◌≤◌, ◌<◌, ◌==◌, ◌||◌, Bool, true, false, List, [], ◌∷◌, ◌++◌, length, take, drop, refl, sym, ap, subst, ◌∙◌, arith, Some}
 use Rattle.std.proofs.lemmas.Bool.{ne_eqb}
 use Rattle.std.proofs.lemmas.List.{append-nil}
 use Rattle.var_header.proofs.Fronts.{header_taken, start_id_taken}
 use Rattle.var_header.proofs.Headers.{read_again, start_id_again}
 use Rattle.var_header.specs.declared.header.Header.{Header}
 use Rattle.var_header.specs.Header.{IsHeader, has_start_id, header_bytes, header_of}
-use Rattle.var_types.proofs.Records.{has_all}
 use Rattle.var_types.proofs.Walks.{length-well_formed}
 use Rattle.var_types.specs.declared.record.Record.{Record}
-use Rattle.var_types.specs.Live.{live_of, lives, with_live}
-use Rattle.var_types.specs.Record.{Authenticated, HasRecords, erased_number, is_bare, is_clean, next_offset, record_at, records, tail_from, whole_size}
+use Rattle.var_types.specs.Live.{live_of, with_live}
+use Rattle.var_types.specs.Record.{Authenticated, HasRecords, erased_number, is_bare, is_clean, next_offset, record_at, records, tail_from}
 use Rattle.var_types.specs.Region.{Region, is_tail_clean, region_lives, region_records, tail_offset}
 use Rattle.var_types.specs.Room.{align4}
 use Rattle.var_region.specs.declared.new_record.NewRecord.{NewRecord}

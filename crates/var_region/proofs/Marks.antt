@@ -1,5 +1,5 @@
 -- Another state byte of a whole record changes that record's state alone.
-use Rattle.std.proofs.Common.{◌≡◌, ◌≢◌, ℕ, ◌+◌, ◌≤◌, ◌<◌, ◌==◌, ◌||◌, not, Bool, true, false, List, [], ◌∷◌, ◌++◌, length, drop, refl, sym, ap, subst, ◌∙◌, arith, set, length-set, length-drop, Option, Some, None}
+use Rattle.std.proofs.Common.{◌≡◌, ◌≢◌, ℕ, ◌+◌, ◌≤◌, ◌==◌, ◌||◌, not, Bool, true, false, List, ◌∷◌, ◌++◌, length, drop, sym, ap, subst, ◌∙◌, arith, set, length-set, length-drop, Some}
 use Rattle.std.proofs.lemmas.Bool.{ne_eqb}
 use Rattle.std.proofs.lemmas.List.{drop-set-add, drop-set-lt}
 use Rattle.std.specs.List.{list_all}
@@ -9,13 +9,12 @@ use Rattle.var_header.specs.declared.header.Header.{Header}
 use Rattle.var_header.specs.Header.{has_start_id, header_of}
 use Rattle.var_types.proofs.Records.{has_all, one}
 use Rattle.var_types.specs.declared.record.Record.{Record}
-use Rattle.var_types.specs.declared.record_state.RecordState.{RecordState}
-use Rattle.var_types.specs.Live.{Live, data_bytes, live_of, lives, name_bytes, name_in, with_live}
-use Rattle.var_types.specs.Record.{Authenticated, HasRecords, erased_number, is_bare, is_clean, next_offset, record_at, records, tail_from, whole_size}
+use Rattle.var_types.specs.Live.{Live, live_of, lives, name_in, with_live}
+use Rattle.var_types.specs.Record.{Authenticated, HasRecords, erased_number, is_bare, is_clean, next_offset, record_at, records, tail_from}
 use Rattle.var_types.specs.RecordState.{record_state}
 use Rattle.var_types.specs.Region.{Region, is_tail_clean, region_lives, region_records, tail_offset}
 use Rattle.var_region.proofs.Alike.{IsAlike, alike_set, same_lives, same_part, same_records, same_rest}
-use Rattle.var_region.proofs.Read.{has_behind, next_behind, next_onward, place_of, read_all, read_front, read_of, tail_onward, whole_read}
+use Rattle.var_region.proofs.Read.{has_behind, next_onward, place_of, read_all, read_front, read_of, tail_onward, whole_read}
 use Rattle.var_region.proofs.Stored.{each_region, found_in, live_from, live_with, stored_of}
 use Rattle.var_region.proofs.Tails.{lives-append, tail-append}
 use Rattle.var_region.specs.WritingLaws.{IsRestated, MarksChangeOneRecord, MarksRestateOneLiveRecord, live_restated}

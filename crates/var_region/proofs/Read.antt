@@ -1,5 +1,5 @@
 -- What a record that was read tells of the bytes, and when one is read.
-use Rattle.std.proofs.Common.{◌≡◌, ℕ, ◌+◌, ◌*◌, ◌/◌, ◌≤◌, ◌<◌, not, Bool, true, false, cond, List, [], ◌∷◌, ◌++◌, length, drop, nat_lt, ltb, ltb-false, le-ltb, if◌then◌else◌, refl, sym, ap, subst, ◌∙◌, arith, Option, Some, None, Result, Ok, Err}
+use Rattle.std.proofs.Common.{◌≡◌, ℕ, ◌+◌, ◌*◌, ◌/◌, ◌≤◌, not, Bool, true, false, cond, List, [], ◌∷◌, ◌++◌, length, drop, nat_lt, ltb, ltb-false, le-ltb, refl, sym, ap, subst, ◌∙◌, arith, Some, None, Ok, Err}
 use Rattle.var_header.specs.declared.header.Header.{Header}
 use Rattle.var_header.specs.declared.header_fault.HeaderFault.TheVariants.{NoStart, PastEnd}
 use Rattle.var_header.specs.Header.{has_start_id, header_of, header_read}

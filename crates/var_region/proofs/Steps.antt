@@ -1,14 +1,14 @@
 -- The steps of an append, as bytes: the header, its state byte, and the name and data behind it.
-use Rattle.std.proofs.Common.{◌≡◌, ℕ, ◌+◌, ◌*◌, ◌-◌, ◌≤◌, ◌<◌, ◌^◌, Bool, List, [], ◌∷◌, ◌++◌, length, take, drop, set, refl, sym, ap, subst, ◌∙◌, arith, append_assoc, length-append}
+use Rattle.std.proofs.Common.{◌≡◌, ℕ, ◌+◌, ◌-◌, ◌≤◌, ◌<◌, ◌^◌, List, [], ◌++◌, length, take, drop, set, refl, sym, ap, subst, ◌∙◌, arith, append_assoc, length-append}
 use Rattle.std.proofs.lemmas.List.{append-nil, drop-drop, length-take-le, set-append_right, take-take, take_at}
 use Rattle.var_header.proofs.Headers.{length-header_bytes}
 use Rattle.var_header.specs.declared.header.Header.{Header}
 use Rattle.var_header.specs.Header.{header_bytes}
-use Rattle.var_types.proofs.Placed.{before_placed, behind_placed, here_placed, length-placed, length_before, placed_more}
-use Rattle.var_types.specs.Placed.{IsOutsideKept, placed}
+use Rattle.var_types.proofs.Placed.{before_placed, behind_placed, here_placed, length-placed, placed_more}
+use Rattle.var_types.specs.Placed.{placed}
 use Rattle.var_types.specs.Region.{Region, tail_offset}
 use Rattle.var_region.specs.declared.new_record.NewRecord.{NewRecord}
-use Rattle.var_region.specs.NewRecord.{IsNew, new_body, new_bytes, new_header, new_size}
+use Rattle.var_region.specs.NewRecord.{new_body, new_bytes, new_header, new_size}
 use Rattle.var_region.specs.WritingLaws.{AreSteps, BodiesKeepTheHeader, HeadersBegin, IsBegun, StepsLeaveTheirBytes}
 use Rattle.var_region.specs.Written.{FitsBehind, state_set}
 use Rattle.var_region.proofs.Alike.{alike_front, same_part}

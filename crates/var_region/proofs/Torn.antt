@@ -1,21 +1,20 @@
 -- What a header, or a name and data, that were programmed in part leave: no live record.
-use Rattle.std.proofs.Common.{◌≡◌, ◌⊎◌, inl, inr, ℕ, ◌+◌, ◌≤◌, ◌<◌, ◌==◌, ◌||◌, not, Bool, true, false, List, [], ◌∷◌, ◌++◌, length, take, drop, get_or, refl, sym, ap, subst, ◌∙◌, arith, Option, None, Some}
+use Rattle.std.proofs.Common.{◌≡◌, ◌⊎◌, inl, inr, ℕ, ◌+◌, ◌<◌, ◌==◌, ◌||◌, not, Bool, true, false, List, [], ◌∷◌, ◌++◌, length, drop, get_or, refl, sym, ap, ◌∙◌, arith, Option, None, Some}
 use Rattle.std.proofs.lemmas.List.{append-nil, get_or-drop}
 use Rattle.var_header.proofs.Fronts.{state_of}
 use Rattle.var_header.specs.declared.header.Header.{Header}
-use Rattle.var_types.proofs.Records.{has_all}
 use Rattle.var_types.specs.declared.record.Record.{Record}
-use Rattle.var_types.specs.Live.{live_of, lives, with_live}
+use Rattle.var_types.specs.Live.{lives, with_live}
 use Rattle.var_types.specs.Placed.{IsOutsideKept}
 use Rattle.var_types.specs.Record.{Authenticated, HasRecords, erased_number, is_bare, is_clean, next_offset, record_at, records, tail_from}
 use Rattle.var_types.specs.RecordState.{record_state}
-use Rattle.var_types.specs.Region.{Region, is_tail_clean, region_lives, region_records, tail_offset}
+use Rattle.var_types.specs.Region.{is_tail_clean, region_lives, region_records, tail_offset}
 use Rattle.var_region.specs.declared.new_record.NewRecord.{NewRecord}
 use Rattle.var_region.specs.WritingLaws.{IsBegun, TornBodiesChangeNoVariable, TornHeadersAreHeadersAtMost, TornHeadersChangeNoVariable}
 use Rattle.var_region.specs.Written.{FitsBehind, with_bytes}
 use Rattle.var_region.proofs.Alike.{IsAlike, alike_back, alike_front}
 use Rattle.var_region.proofs.Begun.{begun_lives, r}
-use Rattle.var_region.proofs.Read.{IsRead, next_onward, read_of}
+use Rattle.var_region.proofs.Read.{next_onward, read_of}
 use Rattle.var_region.proofs.Stored.{each_region, live_none}
 use Rattle.var_region.proofs.Tails.{IsErasedFrom, alike_erased, erased_from, lives_behind, none_erased, records_behind}
 

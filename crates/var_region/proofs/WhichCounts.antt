@@ -1,5 +1,5 @@
 -- Which record counts for a key where one comes, goes or changes its state.
-use Rattle.std.proofs.Common.{◌≡◌, Bool, true, false, cond, not, ◌&&◌, ◌||◌, List, [], ◌∷◌, ◌++◌, Option, Some, None, refl, sym, ap, subst, ◌∙◌, is_eq}
+use Rattle.std.proofs.Common.{◌≡◌, Bool, true, false, cond, ◌&&◌, ◌||◌, List, [], ◌∷◌, ◌++◌, Option, Some, None, refl, sym, ap, subst, ◌∙◌}
 use Rattle.std.proofs.lemmas.Cmp.{eq_by_cmp_equiv}
 use Rattle.std.proofs.lemmas.List.Folds.{list_any-append}
 use Rattle.std.proofs.lemmas.List.Sums.{fold-append}
@@ -8,17 +8,16 @@ use Rattle.std.proofs.lemmas.Map.Keys.{IsDistinct-from_sorted}
 use Rattle.std.specs.BTreeMap.{insert_entry, is_at}
 use Rattle.std.specs.Cmp.{Equal-is}
 use Rattle.std.specs.List.{list_any}
-use Rattle.std.specs.Map.{keys_of, lookup, remove_entry}
+use Rattle.std.specs.Map.{keys_of, remove_entry}
 use Rattle.std.specs.Option.{option_or}
 use Rattle.var_types.proofs.Chosen.{chosen-none, chosen_from-is, chosen_in_one_pass, settled_stays}
 use Rattle.var_types.proofs.Entries.{lookup-insert_entry, same_entries, sorted-insert_entry}
 use Rattle.var_types.proofs.Keys.{key_cmp_total, same_key}
 use Rattle.var_types.proofs.Maps.{map_exact, same_map}
 use Rattle.var_types.proofs.Orders.{sorted-remove_entry}
-use Rattle.var_types.specs.Chosen.{chosen, chosen_after, chosen_from, counting, is_added, is_of, is_settled, variable_of}
+use Rattle.var_types.specs.Chosen.{chosen, chosen_after, chosen_from, is_added, is_of, is_settled, variable_of}
 use Rattle.var_types.specs.declared.key.Key.{Key}
-use Rattle.var_types.specs.declared.record_state.RecordState.TheVariants.{Added, InDeletedTransition}
-use Rattle.var_types.specs.declared.variable.Variable.{Variable}
+use Rattle.var_types.specs.declared.record_state.RecordState.TheVariants.{InDeletedTransition}
 use Rattle.var_types.specs.Key.{key_cmp}
 use Rattle.var_types.specs.Live.{Live}
 use Rattle.var_types.specs.Region.{map_of}

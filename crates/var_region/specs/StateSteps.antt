@@ -1,11 +1,11 @@
 -- The steps of a state byte, and what each does to the map of live records.
-use Rattle.std.specs.Prelude.{◌≡◌, ◌⊎◌, ℕ, ◌||◌, Bool, true, false, not, List, [], ◌∷◌, ◌++◌, bit_and, Option, Some}
+use Rattle.std.specs.Prelude.{◌≡◌, ◌⊎◌, ℕ, true, false, List, [], ◌∷◌, ◌++◌, bit_and, Some}
 use Rattle.std.specs.BTreeMap.{insert_entry, is_at}
 use Rattle.std.specs.List.{AllByRecursion, list_any}
 use Rattle.std.specs.Map.{remove_entry}
 use Rattle.std.specs.Option.{option_or}
 use Rattle.var_types.specs.Chosen.{chosen, is_added, is_of}
-use Rattle.var_types.specs.declared.record_state.RecordState.TheVariants.{Added, InDeletedTransition}
+use Rattle.var_types.specs.declared.record_state.RecordState.TheVariants.{InDeletedTransition}
 use Rattle.var_types.specs.Key.{key_cmp}
 use Rattle.var_types.specs.Live.{Live}
 use Rattle.var_types.specs.Region.{map_of}

@@ -1,4 +1,4 @@
-use Rattle.std.proofs.Common.{◌≡◌, ◌+◌, ◌++◌, [], length, sym, ap, ◌∙◌, arith}
+use Rattle.std.proofs.Common.{◌+◌, [], ap, ◌∙◌, arith}
 use Rattle.var_header.proofs.Headers.{length-header_bytes}
 use Rattle.var_header.specs.Header.{header_bytes}
 use Rattle.var_types.proofs.Placed.{placed_more}

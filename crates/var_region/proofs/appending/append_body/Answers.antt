@@ -1,4 +1,4 @@
-use Rattle.std.proofs.Common.{◌≡◌, ◌+◌, ◌*◌, ◌++◌, ◌∷◌, [], length, sym, ap, ◌∙◌, arith, length-append}
+use Rattle.std.proofs.Common.{◌+◌, ◌*◌, ◌++◌, ◌∷◌, [], length, ap, ◌∙◌, arith, length-append}
 use Rattle.var_types.proofs.Placed.{placed_more}
 use Rattle.var_types.specs.Placed.{placed}
 use Rattle.var_region.proofs.NewRecords.{length-unit_bytes}

@@ -1,4 +1,4 @@
-use Rattle.std.proofs.Common.{◌≡◌, ◌<◌, ◌≤◌, ◌+◌, ◌*◌, ◌^◌, ℕ, drop, length, get_or}
+use Rattle.std.proofs.Common.{◌≡◌, ◌+◌, ◌*◌, drop, length}
 use Rattle.var_types.specs.Placed.{placed}
 use Rattle.var_region.specs.NewRecord.{unit_bytes}
 use Rattle.var_region.proofs.appending.write_units.Given as goal

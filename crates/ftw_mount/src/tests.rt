@@ -126,12 +126,7 @@ fn mounts(rt: &impl Abort, flash: &mut Hidden, buffer: &mut [u8]) -> Result<u32,
     mount(flash, buffer)
 }
 
-fn writes(
-    rt: &impl Abort,
-    flash: &mut Hidden,
-    slots: u32,
-    content: &[u8],
-) -> Result<u32, Device> {
+fn writes(rt: &impl Abort, flash: &mut Hidden, slots: u32, content: &[u8]) -> Result<u32, Device> {
     assert!(rt; flash.len() == 131_072);
     assert!(rt; content.len() == VOLUME);
     assert!(rt; slots <= 255);
@@ -167,7 +162,10 @@ fn check_mounts(
     assert!(rt; keeps(rt, alloc, flash.flash.bytes(), content)?);
     for stop in 0..flash.flash.calls() {
         let mut stopped = stopping(alloc, bytes.to_vec(alloc)?, Some(stop), torn);
-        assert_eq!(rt; mounts(rt, &mut stopped, &mut buffer), Err(MountFault::Device));
+        assert_eq!(rt;
+            mounts(rt, &mut stopped, &mut buffer),
+            Err(MountFault::Device)
+        );
         let left = stopped.release();
         assert!(rt; keeps(rt, alloc, &left, content)?, "{stop}");
         let mut again = whole(alloc, left);

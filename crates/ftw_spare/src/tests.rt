@@ -35,8 +35,7 @@ fn holds_runs(rt: &HostRuntime, path: &str, runs: &[(usize, u8)]) -> Result<bool
     Ok(are_runs(held.as_slice(), runs))
 }
 
-fn is_blank<F: Flash>(rt: &impl Abort, flash: &mut F) -> Result<bool, Device>
-{
+fn is_blank<F: Flash>(rt: &impl Abort, flash: &mut F) -> Result<bool, Device> {
     assert!(rt; flash.len() == 131_072);
     let mut buffer = [0; 4096];
     blank(flash, &mut buffer)

@@ -94,8 +94,16 @@ fn gates_are_open_or_closed_and_nothing_else(rt: HostRuntime) -> Result<(), Fail
             0xff => (unclean, CLEAN, PENDING),
             _ => (unclean, unclean, unclean),
         };
-        assert_eq!(rt; says(&rt, &area(alloc, 0, &[(15, value)])?), header, "{value}");
-        assert_eq!(rt; says(&rt, &area(alloc, 0, &[(16, value)])?), spare, "{value}");
+        assert_eq!(rt;
+            says(&rt, &area(alloc, 0, &[(15, value)])?),
+            header,
+            "{value}"
+        );
+        assert_eq!(rt;
+            says(&rt, &area(alloc, 0, &[(16, value)])?),
+            spare,
+            "{value}"
+        );
         let pending = area(alloc, 0, &[(16, 0xfe), (17, value)])?;
         assert_eq!(rt; says(&rt, &pending), destination, "{value}");
     }

@@ -24,5 +24,5 @@ returns-in-len5 c =
     with_verdict ws d c.set_call-in-len5.result c.in-len5.len_at_least c.in-len5.len_below
     (subst
     (λ v. GivesLine c.set_call-in-len5.result
-        (set_call (get_or ws 0 d).now (get_or ws 1 d).now (get_or ws 2 d).now (get_or ws 3 d).now v))
+    (set_call (get_or ws 0 d).now (get_or ws 1 d).now (get_or ws 2 d).now (get_or ws 3 d).now v))
     c.verdict_of.ensures c.set_call-in-len5.ensures)

@@ -13,6 +13,13 @@ const MARK: [u8; 16] = *b"VARSVC-FTW-0001\xFE";
 
 const TEARS: [Torn; 3] = [Torn::Before, Torn::Half, Torn::After];
 
+// The bytes of a spare gate and of the header's gate, and one of the spare.
+const PENDING: (usize, u8) = (61_504, 0xFE);
+
+const CLOSED: (usize, u8) = (61_455, 0xFF);
+
+const USED: (usize, u8) = (131_071, 0);
+
 // A flash in memory that tells no bytes, so that it may be called whatever it holds.
 #[derive(Drop)]
 struct Hidden {
@@ -126,7 +133,12 @@ fn mounts(rt: &impl Abort, flash: &mut Hidden, buffer: &mut [u8]) -> Result<u32,
     mount(flash, buffer)
 }
 
-fn writes(rt: &impl Abort, flash: &mut Hidden, slots: u32, content: &[u8]) -> Result<u32, Device> {
+fn writes(
+    rt: &impl Abort,
+    flash: &mut Hidden,
+    slots: u32,
+    content: &[u8],
+) -> Result<u32, Device> {
     assert!(rt; flash.len() == 131_072);
     assert!(rt; content.len() == VOLUME);
     assert!(rt; slots <= 255);
@@ -144,33 +156,36 @@ fn keeps(rt: &impl Abort, alloc: Global, bytes: &[u8], content: &[u8]) -> Result
     Ok(is_read && buffer.as_slice() == content && flash.flash.bytes() == bytes)
 }
 
-// Mounts an image that is to keep these bytes and have so many used slots, as a whole, and stopped at each of the mount's steps, torn, and made
-// again.
-fn check_mounts(
+// Mounts an image that is to keep these bytes and have so many used slots.
+fn check_mount(
+    rt: &impl Abort,
+    alloc: Global,
+    bytes: Vec<u8>,
+    content: &[u8],
+    slots: u32,
+) -> Result<(), AllocError> {
+    assert!(rt; keeps(rt, alloc, &bytes, content)?);
+    let mut buffer = vec![in alloc; 0u8; VOLUME]?;
+    let mut flash = whole(alloc, bytes);
+    assert_eq!(rt; mounts(rt, &mut flash, &mut buffer), Ok(slots));
+    assert!(rt; flash.flash.bytes().starts_with(content));
+    Ok(())
+}
+
+// The same where the mount is stopped at one of its steps, torn, and made again.
+fn check_stopped_mount(
     rt: &impl Abort,
     alloc: Global,
     bytes: &[u8],
     content: &[u8],
     slots: u32,
-    torn: Torn,
+    stop: u32,
 ) -> Result<(), AllocError> {
     let mut buffer = vec![in alloc; 0u8; VOLUME]?;
-    assert!(rt; keeps(rt, alloc, bytes, content)?);
-    let mut flash = whole(alloc, bytes.to_vec(alloc)?);
-    assert_eq!(rt; mounts(rt, &mut flash, &mut buffer), Ok(slots));
-    assert!(rt; flash.flash.bytes().starts_with(content));
-    assert!(rt; keeps(rt, alloc, flash.flash.bytes(), content)?);
-    for stop in 0..flash.flash.calls() {
+    for torn in TEARS {
         let mut stopped = stopping(alloc, bytes.to_vec(alloc)?, Some(stop), torn);
-        assert_eq!(rt;
-            mounts(rt, &mut stopped, &mut buffer),
-            Err(MountFault::Device)
-        );
-        let left = stopped.release();
-        assert!(rt; keeps(rt, alloc, &left, content)?, "{stop}");
-        let mut again = whole(alloc, left);
-        assert_eq!(rt; mounts(rt, &mut again, &mut buffer), Ok(slots), "{stop}");
-        assert!(rt; again.flash.bytes().starts_with(content), "{stop}");
+        assert_eq!(rt; mounts(rt, &mut stopped, &mut buffer), Err(MountFault::Device));
+        check_mount(rt, alloc, stopped.release(), content, slots)?;
     }
     Ok(())
 }
@@ -188,18 +203,43 @@ fn a_write_that_is_stopped_keeps_the_old_or_the_new(rt: HostRuntime) -> Result<(
             let mut flash = stopping(alloc, before.to_vec(alloc)?, Some(stop), torn);
             assert_eq!(rt; writes(&rt, &mut flash, 3, &new), Err(Device), "{stop}");
             assert_eq!(rt; flash.flash.calls(), stop + 1);
-            let left = flash.release();
             if stop > 17 || stop == 17 && torn != Torn::Before {
-                check_mounts(&rt, alloc, &left, &new, 4, torn)?;
+                check_mount(&rt, alloc, flash.release(), &new, 4)?;
             } else {
-                check_mounts(&rt, alloc, &left, &old, 3, torn)?;
+                check_mount(&rt, alloc, flash.release(), &old, 3)?;
             }
         }
     }
     let mut flash = whole(alloc, before);
     assert_eq!(rt; writes(&rt, &mut flash, 3, &new), Ok(4));
     assert_eq!(rt; flash.flash.calls(), 34);
-    check_mounts(&rt, alloc, flash.flash.bytes(), &new, 4, Torn::Half)?;
+    check_mount(&rt, alloc, flash.release(), &new, 4)?;
+    Ok(())
+}
+
+// It has 19 steps: it reads a block of the spare, the work area and the content, and does as the write would have.
+#[test]
+fn a_mount_that_finishes_a_write_is_made_again(rt: HostRuntime) -> Result<(), Fail> {
+    let alloc = rt.alloc();
+    let old = volume(alloc, 7)?;
+    let new = volume(alloc, 13)?;
+    let mut pending = image(alloc, &old, 3, &[PENDING])?;
+    put(&mut pending, 65_536, &new);
+    for stop in 0..19 {
+        check_stopped_mount(&rt, alloc, &pending, &new, 4, stop)?;
+    }
+    Ok(())
+}
+
+// It has 20 steps: it reads the 16 blocks of the spare and the work area first.
+#[test]
+fn a_mount_that_makes_the_work_area_is_made_again(rt: HostRuntime) -> Result<(), Fail> {
+    let alloc = rt.alloc();
+    let old = volume(alloc, 7)?;
+    let unmade = image(alloc, &old, 3, &[CLOSED])?;
+    for stop in 0..20 {
+        check_stopped_mount(&rt, alloc, &unmade, &old, 0, stop)?;
+    }
     Ok(())
 }
 
@@ -215,13 +255,12 @@ fn a_write_where_all_slots_are_used_renews_the_work_area(rt: HostRuntime) -> Res
         for torn in TEARS {
             let mut flash = stopping(alloc, before.to_vec(alloc)?, Some(stop), torn);
             assert_eq!(rt; writes(&rt, &mut flash, 255, &new), Err(Device), "{stop}");
-            let left = flash.release();
             if stop > 36 || stop == 36 && torn != Torn::Before {
-                check_mounts(&rt, alloc, &left, &new, 1, torn)?;
+                check_mount(&rt, alloc, flash.release(), &new, 1)?;
             } else if stop < 16 || stop == 16 && torn == Torn::Before {
-                check_mounts(&rt, alloc, &left, &old, 255, torn)?;
+                check_mount(&rt, alloc, flash.release(), &old, 255)?;
             } else {
-                check_mounts(&rt, alloc, &left, &old, 0, torn)?;
+                check_mount(&rt, alloc, flash.release(), &old, 0)?;
             }
         }
     }
@@ -237,13 +276,6 @@ fn spare_of(bytes: &[u8]) -> &[u8] {
         None => &[],
     }
 }
-
-// The bytes of a spare gate and of the header's gate, and one of the spare.
-const PENDING: (usize, u8) = (61_504, 0xFE);
-
-const CLOSED: (usize, u8) = (61_455, 0xFF);
-
-const USED: (usize, u8) = (131_071, 0);
 
 #[test]
 fn a_mount_goes_by_spare_and_work_area(rt: HostRuntime) -> Result<(), Fail> {

@@ -34,13 +34,15 @@ fn over(bytes: &[u8], first: u32) -> Option<Region> {
 
 // The bytes of a record. Its reserved byte, its MonotonicCount and its PubKeyIndex are 0x11; of one in the erased state the header is all.
 fn push(bytes: &mut Vec<u8>, part: &Part) -> Result<(), AllocError> {
+    let owner = guid(part.2);
+    let owner = owner.bytes;
     let header = Header {
         state: part.0,
         attributes: part.1,
         time_stamp: [9; 16],
         name_size: 4,
         data_size: 1,
-        vendor_guid: guid(part.2).bytes,
+        vendor_guid: owner,
     };
     let mut written = [0; 60];
     write_header(&header, &mut written);
@@ -120,11 +122,13 @@ fn compacted_with(
     }
 }
 
-// Records, what is replaced, and of those that are left the first byte of the GUID and the data, in order.
+// Records, what is replaced, and of those that are left the first byte of the GUID and the data, in order; each takes 68 bytes: a header of 60, 4
+// of name, one of data and a gap of 3.
 struct Case {
     parts: &'static [Part],
     change: Change,
     left: &'static [(u8, u8)],
+    size: u32,
     why: &'static str,
 }
 
@@ -133,36 +137,42 @@ const CASES: [Case; 12] = [
         parts: &[],
         change: Change::None,
         left: &[],
+        size: 0,
         why: "no record",
     },
     Case {
         parts: &[],
         change: Change::Put(1, 9),
         left: &[(1, 9)],
+        size: 68,
         why: "the new record alone",
     },
     Case {
         parts: &[Part(0x3D, 7, 1, 1), Part(0x3C, 7, 2, 2)],
         change: Change::None,
         left: &[],
+        size: 0,
         why: "deleted records alone",
     },
     Case {
         parts: &[Part(0x3F, 7, 1, 1), Part(0x3F, 7, 1, 2)],
         change: Change::None,
         left: &[(1, 1)],
+        size: 68,
         why: "two ADDED of one key",
     },
     Case {
         parts: &[Part(0x3E, 7, 1, 1), Part(0x3E, 7, 1, 2)],
         change: Change::None,
         left: &[(1, 2)],
+        size: 68,
         why: "two in transition of one key",
     },
     Case {
         parts: &[Part(0x3E, 7, 1, 1)],
         change: Change::None,
         left: &[(1, 1)],
+        size: 68,
         why: "a lone one in transition",
     },
     Case {
@@ -177,12 +187,14 @@ const CASES: [Case; 12] = [
         ],
         change: Change::None,
         left: &[(3, 1), (1, 5), (2, 7)],
+        size: 204,
         why: "records that are none of the store's between, and not in key order",
     },
     Case {
         parts: &[Part(0x3F, 7, 2, 1)],
         change: Change::Put(1, 9),
         left: &[(2, 1), (1, 9)],
+        size: 136,
         why: "a new key behind the others",
     },
     Case {
@@ -193,24 +205,28 @@ const CASES: [Case; 12] = [
         ],
         change: Change::Put(1, 9),
         left: &[(2, 2), (1, 9)],
+        size: 136,
         why: "a key that is there, put behind the others",
     },
     Case {
         parts: &[Part(0x3F, 7, 1, 1), Part(0x3F, 7, 2, 2)],
         change: Change::Drop(1),
         left: &[(2, 2)],
+        size: 68,
         why: "a key that is there goes",
     },
     Case {
         parts: &[Part(0x3F, 7, 1, 1), Part(0x3F, 7, 2, 2)],
         change: Change::Drop(3),
         left: &[(1, 1), (2, 2)],
+        size: 136,
         why: "a key that isn't there goes",
     },
     Case {
         parts: &[Part(0x3E, 7, 1, 1), Part(0x3F, 7, 1, 2)],
         change: Change::None,
         left: &[(1, 2)],
+        size: 68,
         why: "an ADDED one behind its twin",
     },
 ];
@@ -240,14 +256,9 @@ fn records_that_count_are_kept(rt: HostRuntime) -> Result<(), Fail> {
     for case in &CASES {
         let bytes = region_bytes(alloc, case.parts)?;
         let region = over(&bytes, 100).expect(&rt, "the first record is within");
-        // Each record left takes 68 bytes: 60, 4 of name, one of data and a gap of 3.
-        let size = case
-            .left
-            .iter()
-            .map(|_| 68usize)
-            .fold(0, usize::saturating_add);
+        let size = case.size as usize;
         let mut into = vec![in alloc; 0x77; size.saturating_add(12)]?;
-        let need = u32::try_from(size).unwrap_or(u32::MAX);
+        let need = case.size;
         let answer = compacted(&region, &case.change, &mut into);
         assert_eq!(rt; answer, Some((need, Ok(need))), "{}", case.why);
         assert!(rt;

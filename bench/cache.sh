@@ -66,8 +66,8 @@ fn push(bytes: &mut Vec<u8>, number: u16, attributes: u8) -> Result<(), AllocErr
     }
     bytes.extend_from_slice(&[0, 0])?;
     bytes.extend_from_slice(&[0x5A; DATA])?;
-    while bytes.len() % 4 != 0 {
-        bytes.push(0xFF)?;
+    if bytes.len() % 4 != 0 {
+        bytes.extend_from_slice(&[0xFF; 4][bytes.len() % 4..])?;
     }
     Ok(())
 }
@@ -102,17 +102,6 @@ fn gets(cache: &Cache, into: &mut [u8; 256]) -> u64 {
     answered
 }
 
-/// Copies of as many bytes as those gets answer.
-fn answers(from: &[u8; DATA], into: &mut [u8; 256]) -> u64 {
-    let mut copied = 0u64;
-    for turn in 0..GETS {
-        into[..DATA].copy_from_slice(from);
-        into[0] = turn as u8 & 0x7F;
-        copied = copied.wrapping_add(u64::from(into[0]));
-    }
-    copied
-}
-
 fn merges(cache: &mut Cache, first: &[u8], second: &[u8], ranges: &Ranges) {
     if first.len() != VOLUME || second.len() != VOLATILE {
         return;
@@ -130,7 +119,7 @@ fn copies(from: &[u8], into: &mut [u8]) {
     for turn in 0..MERGES {
         into.copy_from_slice(from);
         if let Some(first) = into.first_mut() {
-            *first = turn as u8 & 0x7F;
+            *first = (turn % 128) as u8;
         }
     }
 }
@@ -152,11 +141,7 @@ fn main(rt: HostRuntime) -> Result<(), Error> {
     let start = Instant::now(&rt)?;
     let answered = gets(&cache, &mut into);
     let took = start.elapsed(&rt)?.as_nanos();
-    let start = Instant::now(&rt)?;
-    let copied = answers(&[0x5A; DATA], &mut into);
-    let plain = start.elapsed(&rt)?.as_nanos();
-    let (took, plain) = (each(took, GETS), each(plain, GETS));
-    println!(rt; "get {DATA} {took} {plain} {answered} {copied}")?;
+    println!(rt; "get {} {answered}", each(took, GETS))?;
 
     let mut old = vec![in alloc; 0; VOLUME + VOLATILE]?;
     let new = vec![in alloc; 1; VOLUME + VOLATILE]?;
@@ -171,11 +156,11 @@ fn main(rt: HostRuntime) -> Result<(), Error> {
         let start = Instant::now(&rt)?;
         merges(&mut cache, &first, &second, &ranges);
         let took = start.elapsed(&rt)?.as_nanos();
-        let (Some(from), Some(to)) = (new.get(..bytes), old.get_mut(..bytes)) else {
+        if bytes > new.len() || bytes > old.len() {
             return Ok(());
-        };
+        }
         let start = Instant::now(&rt)?;
-        copies(from, to);
+        copies(&new[..bytes], &mut old[..bytes]);
         let plain = start.elapsed(&rt)?.as_nanos();
         let (took, plain) = (each(took, MERGES), each(plain, MERGES));
         println!(rt; "merge {bytes} {took} {plain}")?;
@@ -193,9 +178,9 @@ if ! (cd "$folder/crates/cache_bench" && rt run </dev/null) >"$log" 2>&1; then
     exit 1
 fi
 
-"$folder/crates/cache_bench/out/cache_bench" | while read -r kind size took plain _; do
+"$folder/crates/cache_bench/out/cache_bench" | while read -r kind first second third; do
     case "$kind" in
-        get) echo "a get over 200 variables: $took ns, a copy of the $size bytes of its answer: $plain ns" ;;
-        merge) echo "a merge of $size bytes: $took ns, a copy of as many: $plain ns" ;;
+        get) echo "a get over 200 variables: $first ns ($second bytes answered by 20,000)" ;;
+        merge) echo "a merge of $first bytes: $second ns, a copy of as many: $third ns" ;;
     esac
 done

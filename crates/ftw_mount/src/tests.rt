@@ -133,12 +133,7 @@ fn mounts(rt: &impl Abort, flash: &mut Hidden, buffer: &mut [u8]) -> Result<u32,
     mount(flash, buffer)
 }
 
-fn writes(
-    rt: &impl Abort,
-    flash: &mut Hidden,
-    slots: u32,
-    content: &[u8],
-) -> Result<u32, Device> {
+fn writes(rt: &impl Abort, flash: &mut Hidden, slots: u32, content: &[u8]) -> Result<u32, Device> {
     assert!(rt; flash.len() == 131_072);
     assert!(rt; content.len() == VOLUME);
     assert!(rt; slots <= 255);
@@ -184,7 +179,10 @@ fn check_stopped_mount(
     let mut buffer = vec![in alloc; 0u8; VOLUME]?;
     for torn in TEARS {
         let mut stopped = stopping(alloc, bytes.to_vec(alloc)?, Some(stop), torn);
-        assert_eq!(rt; mounts(rt, &mut stopped, &mut buffer), Err(MountFault::Device));
+        assert_eq!(rt;
+            mounts(rt, &mut stopped, &mut buffer),
+            Err(MountFault::Device)
+        );
         check_mount(rt, alloc, stopped.release(), content, slots)?;
     }
     Ok(())

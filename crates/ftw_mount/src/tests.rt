@@ -1,3 +1,7 @@
+ghost use Rattle.std.specs.Prelude.{◌≡◌, ◌+◌, ◌*◌, ◌≤◌, None, length};
+ghost use Rattle.outside.specs.Faults.{HasCause};
+ghost use Rattle.var_types.specs.Layout.{block_size};
+
 use crate::{MountFault, mount, read_kept, write_volume};
 use flash_dev::{Device, FaultPlan, Flash, MemFlash, Torn};
 use std::alloc::{AllocError, Global};
@@ -33,8 +37,6 @@ impl Hidden {
 }
 
 impl Flash for Hidden {
-    ghost use Rattle.std.specs.Prelude.{None, length};
-
     ghost size = { λ h. length h.flash.bytes };
 
     ghost holds = { λ _. None };
@@ -53,15 +55,27 @@ impl Flash for Hidden {
         self.flash.faults()
     }
 
-    fn read(&mut self, at: u32, into: &mut [u8]) -> Result<(), Device> {
+    fn read(&mut self, at: u32, into: &mut [u8]) -> Result<(), Device>
+        requires { at + length into.old ≤ length self.old.flash.bytes }
+        ensures size { length self.new.flash.bytes ≡ length self.old.flash.bytes }
+        ensures cause { HasCause self.old.flash.faults self.new.flash.faults result }
+    {
         self.flash.read(at, into)
     }
 
-    fn program(&mut self, at: u32, bytes: &[u8]) -> Result<(), Device> {
+    fn program(&mut self, at: u32, bytes: &[u8]) -> Result<(), Device>
+        requires { at + length bytes.now ≤ length self.old.flash.bytes }
+        ensures size { length self.new.flash.bytes ≡ length self.old.flash.bytes }
+        ensures cause { HasCause self.old.flash.faults self.new.flash.faults result }
+    {
         self.flash.program(at, bytes)
     }
 
-    fn erase(&mut self, block: u32) -> Result<(), Device> {
+    fn erase(&mut self, block: u32) -> Result<(), Device>
+        requires { block_size * block + block_size ≤ length self.old.flash.bytes }
+        ensures size { length self.new.flash.bytes ≡ length self.old.flash.bytes }
+        ensures cause { HasCause self.old.flash.faults self.new.flash.faults result }
+    {
         self.flash.erase(block)
     }
 

@@ -281,6 +281,18 @@ fn records_that_count_are_kept(rt: HostRuntime) -> Result<(), Fail> {
             "no other record: {}",
             case.why
         );
+    }
+    Ok(())
+}
+
+#[test]
+fn exactly_the_room_is_enough(rt: HostRuntime) -> Result<(), Fail> {
+    let alloc = rt.alloc();
+    for case in &CASES {
+        let bytes = region_bytes(alloc, case.parts)?;
+        let region = over(&bytes, 100).expect(&rt, "the first record is within");
+        let size = case.size as usize;
+        let need = case.size;
         let mut exact = vec![in alloc; 0x77; size]?;
         let answer = compacted(&region, &case.change, &mut exact);
         assert_eq!(rt;

@@ -157,10 +157,8 @@ fn steps(service: &mut Plain, alloc: Global, step: &Step) -> Result<bool, Fail> 
 
 fn answers(rt: &impl Abort, alloc: Global, limit: u64, table: &[Step]) -> Result<(), Fail> {
     let mut service = Plain::new(alloc, limit);
-    let mut number = 0;
-    for step in table {
+    for (number, step) in table.iter().enumerate() {
         assert!(rt; steps(&mut service, alloc, step)?, "step {number}");
-        number += 1;
     }
     Ok(())
 }

@@ -1,5 +1,5 @@
 #!/usr/bin/env bash
-# Time of listing full stores, beside that of copying the same file to standard output by cat.
+# Time of listing and checking full stores, beside that of copying the same file to standard output by cat.
 # Needs python3.
 # usage: bench/listing.sh [PROGRAM]      (default: the program that ./varsvc builds)
 set -eu
@@ -56,18 +56,24 @@ def least(words, path):
 
 def main():
     program = sys.argv[1]
-    worst = 0
+    worst = most = 0
     for name, records in full_stores():
         with tempfile.NamedTemporaryFile() as file:
             file.write(image(records))
             file.flush()
             listed = subprocess.run([program, "list", file.name], capture_output=True, check=True).stdout
             assert listed.startswith(b"variables %d\n" % len(records)), listed[:40]
+            checked = subprocess.run([program, "check", file.name], capture_output=True, check=True).stdout
+            assert b"\nvariables %d used " % len(records) in checked, checked
             copy, listing = least(["cat"], file.name), least([program, "list"], file.name)
+            checking = least([program, "check"], file.name)
         worst = max(worst, listing / copy)
+        most = max(most, checking / listing)
+        print(f"{name}: checking {checking * 1000:.2f} ms, {checking / listing:.2f} times the listing")
         print(f"{name}: copying {copy * 1000:.2f} ms, listing {listing * 1000:.2f} ms, {listing / copy:.2f} times ({len(listed)} bytes)")
     print(f"at most {worst:.2f} times the time of copying (at most 3)")
-    if worst > 3:
+    print(f"a check takes at most {most:.2f} times a listing (at most 1.5)")
+    if worst > 3 or most > 1.5:
         sys.exit("too slow")
 
 

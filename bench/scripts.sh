@@ -1,6 +1,6 @@
 #!/usr/bin/env bash
-# Time and peak memory of the built program on scripts of 2,000 and 20,000 calls, and on one of about 1,048,576 bytes.
-# Needs GNU time (Debian's package `time`) and python3.
+# Time, instructions and peak memory of the built program on scripts of several kinds, and how its time grows with the number of calls.
+# Needs GNU time (Debian's package `time`) and python3; instructions are counted where valgrind is there.
 # usage: bench/scripts.sh [PROGRAM]      (default: the program that ./varsvc builds)
 set -eu
 top="$(cd "$(dirname "${BASH_SOURCE[0]}")/.." && pwd)"
@@ -8,31 +8,103 @@ program="${1:-$top/crates/varsvc/out/varsvc}"
 [ -x "$program" ] || "$top/varsvc" run none </dev/null >/dev/null
 
 exec python3 - "$program" <<'PYTHON'
-import os, subprocess, sys, tempfile, time
+import itertools, os, re, shutil, subprocess, sys, tempfile, time
 
 GUID = "8be4df61-93ca-11d2-aa0d-00e098032b8c"
+SHORT_GUID = GUID.replace("-", "")
 RUNS = 15
-SLACK = 16 * 1024 * 1024
+# What a call and its answer take in their lists, and what the allocator adds to a block, of which the least has 32 bytes.
+CALL, ANSWER, HEAD, LEAST = 88, 176, 16, 32
+SLACK = 256 * 1024
+# Sizes of data from 1 to 200 bytes, small ones mostly, so that 13,000 sets fit a script.
+SIZES = (1, 3, 8, 200, 5, 13, 2, 10, 1, 20, 4, 7, 11, 60, 1, 2, 9, 7, 3, 6, 2, 2, 1, 5)
 
 
-def script(calls, size=0):
-    """Sets and gets in turn over 64 names; with a size, a comment fills the text up to it."""
-    lines = []
+def block(size):
+    return max(LEAST, (size + HEAD + 15) // 16 * 16) if size else 0
+
+
+class Kind:
+    """The lines of a script, and the bytes of its names, its data and the replies' data."""
+
+    def __init__(self):
+        self.lines, self.held = [], 0
+
+    def call(self, line, name=0, data=0, reply=0):
+        self.lines.append("0 " + line)
+        self.held += CALL + ANSWER + block(2 * name) + block(data) + block(reply)
+
+    def text(self, size=0):
+        text = "\n".join(self.lines) + "\n"
+        if size:
+            text += "#" * (size - len(text) - 1) + "\n"
+        return text.encode()
+
+
+def mixed(calls):
+    """Sets and gets in turn over 64 names."""
+    kind = Kind()
     for i in range(calls):
         name = chr(ord("0") + i // 2 % 64)
         if i % 2 == 0:
-            lines.append(f"0 set {GUID} {name} 6 {i // 2 % 256:02x}")
+            kind.call(f"set {GUID} {name} 6 {i // 2 % 256:02x}", 1, 1)
         else:
-            lines.append(f"0 get {GUID} {name} 9")
-    text = "\n".join(lines) + "\n"
-    if size:
-        text += "#" * (size - len(text) - 1) + "\n"
-        assert len(text) == size
-    return text.encode()
+            kind.call(f"get {GUID} {name} 9", 1, 0, 1)
+    return kind
 
 
-def measure(program, text):
-    """The least time of some runs in seconds, the peak in bytes, and the report's length."""
+def gets(calls):
+    """Gets over 64 names."""
+    kind = Kind()
+    for i in range(64):
+        kind.call(f"set {GUID} N{i:03} 6 {i:02x}", 4, 1)
+    for i in range(calls - 64):
+        kind.call(f"get {GUID} N{i % 64:03} 9", 4, 0, 1)
+    return kind
+
+
+def sets(calls):
+    """Sets over 200 keys, of 1 to 200 bytes."""
+    kind = Kind()
+    for i, size in zip(range(calls), itertools.cycle(SIZES)):
+        data = bytes((i // 200 + j) % 256 for j in range(size)).hex()
+        kind.call(f"set {SHORT_GUID} {chr(65 + i % 200 // 20)}{chr(97 + i % 20)} 7 {data}", 2, size)
+    return kind
+
+
+def appends(calls):
+    """Appends of one byte to one variable, up to near the largest record."""
+    kind = Kind()
+    first = 33592 - calls
+    kind.call(f"set {GUID} A 6 " + "5a" * first, 1, first)
+    for i in range(calls):
+        kind.call(f"set {GUID} A 0x46 {i % 256:02x}", 1, 1)
+    return kind
+
+
+def walks(calls):
+    """Walks at runtime over 200 keys, of which half are hidden."""
+    kind = Kind()
+    for i in range(200):
+        kind.call(f"set {GUID} W{i:03} {6 if i % 2 else 2} {i:02x}", 4, 1)
+    kind.call("exitboot")
+    names = ["-"] + [f"W{i:03}" for i in range(1, 200, 2)]
+    for i in range(calls - 201):
+        kind.call(f"next {GUID} {names[i % len(names)]} 64", 4, 0, 8)
+    return kind
+
+
+def large(calls):
+    """Gets of a variable of 33,000 bytes."""
+    kind = Kind()
+    kind.call(f"set {GUID} Big 6 " + "a5" * 33000, 3, 33000)
+    for _ in range(calls):
+        kind.call(f"get {GUID} Big 33000", 3, 0, 33000)
+    return kind
+
+
+def measure(program, text, runs):
+    """The least time of some runs in seconds, the peak in bytes, the report's length, and the instructions."""
     best = None
     with tempfile.TemporaryFile() as source, tempfile.TemporaryFile() as sink:
         source.write(text)
@@ -45,38 +117,53 @@ def measure(program, text):
             done = subprocess.run(words + [program, "run", "vars.fd"], stdin=source, stdout=sink, stderr=subprocess.PIPE, check=True)
             return time.perf_counter() - start, done.stderr
 
-        for _ in range(RUNS):
+        for _ in range(runs):
             took, _ = run([])
             best = took if best is None else min(best, took)
         # GNU time is small, so that what the child had before its own start doesn't count.
         _, peak = run(["/usr/bin/time", "-f", "%M"])
         length = os.fstat(sink.fileno()).st_size
-    return best, int(peak) * 1024, length
+        count = None
+        if shutil.which("valgrind"):
+            _, told = run(["valgrind", "--tool=callgrind", "--callgrind-out-file=/dev/null"])
+            count = int(re.search(rb"Collected : (\d+)", told).group(1))
+    return best, int(peak) * 1024, length, count
 
 
 def main():
     program = sys.argv[1]
-    idle, _, _ = measure(program, b"")
-    print(f"an empty script: {idle * 1000:.2f} ms")
-    times = {}
-    for name, text in (
-        ("2,000 calls", script(2000)),
-        ("20,000 calls", script(20000)),
-        ("10,000 calls in 1,048,576 bytes", script(10000, 1048576)),
+    idle, least, _, _ = measure(program, b"", RUNS)
+    print(f"an empty script: {idle * 1000:.2f} ms, peak {least / 2**20:.1f} MiB")
+    failed = []
+    for name, make, few, many in (
+        ("sets and gets in turn", mixed, 2000, 20000),
+        ("gets", gets, 2000, 20000),
+        ("sets of 1 to 200 bytes", sets, 1300, 13000),
+        ("appends of one byte", appends, 1000, 10000),
+        ("walks at runtime", walks, 2000, 20000),
+        ("gets of 33,000 bytes", large, 200, 2000),
+        ("gets behind a long comment", gets, 1000, 10000),
     ):
-        took, peak, length = measure(program, text)
-        times[name] = took
-        bound = 8 * (len(text) + length) + SLACK
-        print(
-            f"{name}: {took * 1000:.2f} ms, peak {peak / 2**20:.1f} MiB; script {len(text)} and report {length} bytes, "
-            f"of which 8 times and 16 MiB are {bound / 2**20:.1f} MiB"
-        )
-        if peak >= bound:
-            sys.exit("too much memory")
-    ratio = times["20,000 calls"] / times["2,000 calls"]
-    print(f"ten times the calls take {ratio:.1f} times the time (at most 12)")
-    if ratio > 12:
-        sys.exit("too slow")
+        times = []
+        for calls in (few, many):
+            kind = make(calls)
+            text = kind.text(1048576 if name.endswith("comment") else 0)
+            took, peak, length, count = measure(program, text, RUNS if make is not large else 5)
+            times.append(took)
+            bound = least + len(text) + kind.held + SLACK
+            counted = "" if count is None else f", {count / 1e6:.1f} million instructions"
+            print(
+                f"{name}, {calls:,} calls: {took * 1000:.2f} ms{counted}; script {len(text):,} and report {length:,} bytes; "
+                f"peak {peak / 2**20:.1f} MiB of at most {bound / 2**20:.1f}"
+            )
+            if peak >= bound:
+                failed.append(f"{name}: too much memory")
+        ratio = times[1] / times[0]
+        print(f"    ten times the calls take {ratio:.1f} times the time (at most 12)")
+        if ratio > 12:
+            failed.append(f"{name}: too slow")
+    if failed:
+        sys.exit("; ".join(failed))
 
 
 main()

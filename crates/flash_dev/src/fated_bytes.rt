@@ -29,8 +29,9 @@ fn program_half(held: &mut [u8], at: u32, bytes: &[u8])
     clear_even_bits(&mut held[at as usize..], bytes);
 }
 
+/// What a program of bytes at an offset leaves where it is torn this way.
 #[tactic(auto, using(crate::proofs::Left::none_leaves))]
-fn program_torn(held: &mut [u8], torn: Torn, at: u32, bytes: &[u8])
+pub fn program_torn(held: &mut [u8], torn: Torn, at: u32, bytes: &[u8])
     requires { at + length bytes.now ≤ length held.old }
     ensures changed { held.new ≡ torn_program torn at bytes.now held.old }
     ensures left { IsProgramLeft at bytes.now held.old held.new }
@@ -56,7 +57,8 @@ pub(crate) fn program_by(fate: Fate, held: &mut [u8], at: u32, bytes: &[u8])
     }
 }
 
-fn erase_torn(held: &mut [u8], torn: Torn, block: u32)
+/// What an erase of a block leaves where it is torn this way.
+pub fn erase_torn(held: &mut [u8], torn: Torn, block: u32)
     requires { block_size * block + block_size ≤ length held.old }
     ensures changed { held.new ≡ torn_erase torn block held.old }
     ensures left { IsEraseLeft block held.old held.new }

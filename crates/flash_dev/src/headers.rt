@@ -1,7 +1,7 @@
 //! The headers of an image without variables, field by field.
 ghost use Rattle.std.specs.Prelude.{◌≡◌, ◌+◌, ◌≤◌, ◌++◌, length, take};
 ghost use Rattle.flash_dev.specs.Blank.{blank_headers, blocks_of_volume, kind_of_volume, store_header};
-ghost use Rattle.var_types.specs.Layout.{headers_size, volume_header_size};
+ghost use Rattle.var_types.specs.Layout.{headers_size, store_header_size, volume_header_size};
 
 use crate::guids::{AUTHENTICATED_VARIABLE_GUID, SYSTEM_NV_DATA_GUID};
 use crate::layout::{BLOCK_BYTES, BLOCKS, HEADERS_BYTES, IMAGE_BYTES};
@@ -15,7 +15,7 @@ const VOLUME_HEADER_BYTES: u16 = 72;
 /// Brings the sum of the volume's header to 0.
 const CHECKSUM: u16 = 0xF919;
 
-/// How many bytes the store has, its header counted.
+/// How many bytes the non-volatile store has, its header counted.
 const STORE_BYTES: u32 = 0xDFB8;
 
 // Writes bytes at an offset, behind those that are written already.
@@ -49,13 +49,14 @@ fn write_blocks(into: &mut [u8])
     write_at(into, 64, &[0; 8]);
 }
 
-fn write_store(into: &mut [u8])
-    requires { length into.old ≡ headers_size }
-    ensures { into.new ≡ take volume_header_size into.old ++ store_header }
+/// Writes the header of a store of so many bytes at an offset, behind those that are written already.
+pub(crate) fn write_store(into: &mut [u8], at: usize, size: u32)
+    requires { at + store_header_size ≤ length into.old }
+    ensures { take (at + store_header_size) into.new ≡ take at into.old ++ store_header size }
 {
-    write_at(into, 72, &AUTHENTICATED_VARIABLE_GUID);
-    write_at(into, 88, &STORE_BYTES.to_le_bytes());
-    write_at(into, 92, &[0x5A, 0xFE, 0, 0, 0, 0, 0, 0]);
+    write_at(into, at, &AUTHENTICATED_VARIABLE_GUID);
+    write_at(into, at + 16, &size.to_le_bytes());
+    write_at(into, at + 20, &[0x5A, 0xFE, 0, 0, 0, 0, 0, 0]);
 }
 
 /// The headers of volume and store.
@@ -66,6 +67,6 @@ pub(crate) fn blank_headers() -> [u8; HEADERS_BYTES]
     let mut headers = [0; HEADERS_BYTES];
     write_kind(&mut headers);
     write_blocks(&mut headers);
-    write_store(&mut headers);
+    write_store(&mut headers, 72, STORE_BYTES);
     headers
 }

@@ -17,7 +17,7 @@ pub(crate) fn clear_bits(held: &mut [u8], bytes: &[u8])
 }
 
 /// Clears those at an offset.
-pub(crate) fn program_at(held: &mut [u8], at: u32, bytes: &[u8])
+pub fn program_at(held: &mut [u8], at: u32, bytes: &[u8])
     requires { at + length bytes.now ≤ length held.old }
     ensures changed { held.new ≡ programmed at bytes.now held.old }
     ensures left { IsProgramLeft at bytes.now held.old held.new }
@@ -26,7 +26,7 @@ pub(crate) fn program_at(held: &mut [u8], at: u32, bytes: &[u8])
 }
 
 /// Fills a block with one byte.
-pub(crate) fn fill_block(held: &mut [u8], block: u32, byte: u8)
+pub fn fill_block(held: &mut [u8], block: u32, byte: u8)
     requires { block_size * block + block_size ≤ length held.old }
     ensures changed { held.new ≡ block_filled block byte held.old }
     ensures left { IsEraseLeft block held.old held.new }

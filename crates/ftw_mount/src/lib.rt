@@ -13,5 +13,5 @@ mod writing;
 pub use kept::Kept;
 pub use looking::read_kept;
 pub use mount_fault::MountFault;
-pub use mounting::mount;
+pub use mounting::{mount, mount_by};
 pub use writing::{free_slot, write_volume};

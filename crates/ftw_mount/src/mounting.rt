@@ -49,8 +49,8 @@ fn finish<F: Flash>(flash: &mut F, buffer: &mut [u8], slot: u32) -> Result<u32, 
     Ok(slot + 1)
 }
 
-// Mounts an image by what its spare and its work area say.
-fn settle<F: Flash>(flash: &mut F, buffer: &mut [u8], kept: Kept) -> Result<u32, MountFault>
+/// Mounts an image by what was read of its spare and its work area; all as `mount` does.
+pub fn mount_by<F: Flash>(flash: &mut F, buffer: &mut [u8], kept: Kept) -> Result<u32, MountFault>
     requires size { F.size flash.old ≡ image_size }
     requires buffer { length buffer.old ≡ volume_size }
     requires describes { IfSome (F.holds flash.old) (Describes kept) }
@@ -89,5 +89,5 @@ pub fn mount<F: Flash>(flash: &mut F, buffer: &mut [u8]) -> Result<u32, MountFau
     ensures cause { HasCauseAt MountFault.Device (F.fault_count flash.old) (F.fault_count flash.new) result }
 {
     let kept = look_over(flash, buffer)?;
-    settle(flash, buffer, kept)
+    mount_by(flash, buffer, kept)
 }

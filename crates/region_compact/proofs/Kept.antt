@@ -1,5 +1,5 @@
 -- The live records that are kept, one by one, and how much room they take at most.
-use Rattle.std.proofs.Common.{◌≡◌, ℕ, ◌+◌, ◌*◌, ◌/◌, ◌≤◌, ◌<◌, Bool, true, false, cond, List, [], ◌∷◌, ◌++◌, length, refl, sym, ap, subst, ◌∙◌, arith, Option, Some, None}
+use Rattle.std.proofs.Common.{◌≡◌, ℕ, ◌+◌, ◌*◌, ◌/◌, ◌%◌, ◌≤◌, ◌<◌, Bool, true, false, cond, List, [], ◌∷◌, ◌++◌, length, refl, sym, ap, subst, ◌∙◌, arith, Option, Some, None}
 use Rattle.std.specs.List.{AllByRecursion}
 use Rattle.var_types.proofs.Records.{has_all}
 use Rattle.var_types.specs.declared.key.Key.{Key}
@@ -96,5 +96,58 @@ pub rooms_few : (region : Region) (replaced : Option Key) → length region.byte
 unfolding kept_lives
 rooms_few region replaced few low =
     let every = every_few region few low in
+    let fewer = kept_fewer (region_lives region) replaced (region_lives region) in
+    omega arith
+
+-- the next record stands at a multiple of 4
+next_aligned : (r : Record) → next_offset Authenticated r % 4 ≡ 0
+next_aligned r = by (r.at + cond r.whole (whole_size Authenticated r.header) 60)
+  where
+    by : (n : ℕ) → ((n + 3) / 4 * 4) % 4 ≡ 0
+    by n = omega arith
+
+module _ (non_volatile : Bool) (bytes : List ℕ) where
+  tail_aligned : (at : ℕ) (rs : List Record) → at % 4 ≡ 0 → tail_from Authenticated at rs % 4 ≡ 0
+  tail_aligned at [] aligned = aligned
+  tail_aligned at (r ∷ rs) aligned = tail_aligned (next_offset Authenticated r) rs (next_aligned r)
+
+  -- the room of live records from a multiple of 4 on is within the bytes of their records
+  rooms_within : (at : ℕ) (rs : List Record) → at % 4 ≡ 0 → AreRead bytes at rs
+      → rooms (lives Authenticated non_volatile bytes rs) + at ≤ tail_from Authenticated at rs
+  rooms_within at [] aligned has = omega arith
+  rooms_within at (r ∷ rs) aligned has =
+      by (live_of Authenticated non_volatile bytes r) refl (rooms_within (next_offset Authenticated r) rs (next_aligned r) has.1)
+    where
+      by : (found : Option Live) → live_of Authenticated non_volatile bytes r ≡ found
+          → rooms (lives Authenticated non_volatile bytes rs) + next_offset Authenticated r ≤ tail_from Authenticated (next_offset Authenticated r) rs
+          → rooms (with_live found (lives Authenticated non_volatile bytes rs)) + at ≤ tail_from Authenticated (next_offset Authenticated r) rs
+      by None is rest = let next = next_onward bytes at r has.0 in omega arith
+      by (Some live) is rest =
+          let read = read_of bytes at r has.0 in
+          let stored = stored_of non_volatile bytes r live is in
+          let size = stored_size non_volatile bytes at r live read stored in
+          let place = read.place in
+          let behind = next_behind r stored.whole in
+          omega arith
+
+-- the room of the variables of a region of whole multiples of 4 is within what stands behind its first record's offset
+every_within : (region : Region) → region.first % 4 ≡ 0 → length region.bytes % 4 ≡ 0 → region.first ≤ length region.bytes
+    → rooms (region_lives region) + region.first ≤ length region.bytes
+unfolding region_lives region_records
+every_within =
+    each_region (λ region. region.first % 4 ≡ 0 → length region.bytes % 4 ≡ 0 → region.first ≤ length region.bytes
+    → rooms (region_lives region) + region.first ≤ length region.bytes)
+    (λ bytes first nv aligned whole low.
+    let read = read_all bytes first (records Authenticated bytes first) (has_all Authenticated bytes first) in
+    let near = tail_near nv bytes first (records Authenticated bytes first) (omega arith) read in
+    let tail = tail_aligned nv bytes first (records Authenticated bytes first) aligned in
+    let room = rooms_within nv bytes first (records Authenticated bytes first) aligned read in
+    omega arith)
+
+pub kept_within : (region : Region) (replaced : Option Key) → region.first % 4 ≡ 0 → length region.bytes % 4 ≡ 0 → region.first ≤ length region.bytes
+    → rooms (kept_lives region replaced) + region.first ≤ length region.bytes
+unfolding kept_lives
+kept_within region replaced aligned whole low =
+    let every = every_within region aligned whole low in
     let fewer = kept_fewer (region_lives region) replaced (region_lives region) in
     omega arith

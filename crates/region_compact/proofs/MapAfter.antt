@@ -34,7 +34,9 @@ use Rattle.var_types.specs.Room.{room_of}
 use Rattle.region_compact.specs.Compacted.{is_kept, kept_lives, kept_of, live_room, rooms, size_after}
 use Rattle.region_compact.specs.declared.replace.Replace.{Replace}
 use Rattle.region_compact.specs.declared.replace.Replace.TheVariants.{None as Keep, Put, Drop}
-use Rattle.region_compact.specs.Laws.{CompactionsKeepTheMap, SizesAreTheRoom, anew, moved}
+use Rattle.region_compact.specs.Laws.{CompactionsKeepTheMap, SizesAreTheRoom, VariablesFit, anew, moved}
+use Rattle.var_types.specs.Census.{records_room}
+use Rattle.region_compact.proofs.Kept.{kept_within}
 use Rattle.region_compact.specs.Replace.{added_lives, added_room, is_replaced, map_after, replaced_key}
 use Rattle.region_compact.proofs.Distinct.{AreDistinct, alike_both, distinct_after, same_of}
 use Rattle.region_compact.proofs.Orders.{lives_anew}
@@ -304,3 +306,11 @@ SizesAreTheRoom-all region replace =
     added Keep = refl
     added (Put new) = omega arith
     added (Drop guid name) = refl
+
+-- the variables of a region of whole multiples of 4 fit into it
+pub VariablesFit-all : VariablesFit
+unfolding size_after
+VariablesFit-all region aligned whole low =
+    let same : size_after region Keep ≡ records_room (region_map region) = SizesAreTheRoom-all region Keep in
+    let within = kept_within region None aligned whole low in
+    omega (arith, same, within)

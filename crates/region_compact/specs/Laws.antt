@@ -1,10 +1,11 @@
 -- What a compacted region is read as.
-use Rattle.std.specs.Prelude.{◌≡◌, ℕ, ◌+◌, ◌%◌, Bool, true, false, List, [], ◌∷◌, ◌++◌, length, take, drop, replicate, sum_by, filter, ◌==◌}
+use Rattle.std.specs.Prelude.{◌≡◌, ◌≤◌, ℕ, ◌+◌, ◌%◌, Bool, true, false, List, [], ◌∷◌, ◌++◌, length, take, drop, replicate, sum_by, filter, ◌==◌}
 use Rattle.std.specs.BTreeMap.{is_at}
 use Rattle.std.specs.List.{AllByRecursion, list_any}
 use Rattle.std.specs.List.Sorted.{IsStrictlySortedBy}
 use Rattle.std.specs.Map.{keys_of}
 use Rattle.var_types.specs.Attributes.{has, non_volatile_bit, store_of}
+use Rattle.var_types.specs.Census.{records_room}
 use Rattle.var_types.specs.Chosen.{is_of}
 use Rattle.var_types.specs.declared.key.Key.{Key}
 use Rattle.var_types.specs.declared.record_state.RecordState.TheVariants.{Added}
@@ -99,3 +100,10 @@ abbrev pub SizesAreTheRoomNeeded : Type 0
 SizesAreTheRoomNeeded =
     (state : State) (region : Region) (new : NewRecord) → IsStoreOf state region → has new.attributes non_volatile_bit ≡ true
     → size_after region (Put new) ≡ room_needed state (new_key new) (new_variable new)
+
+-- the variables of a region whose ends are multiples of 4 use no more room than it has behind its first record's offset, whatever its bytes
+-- (this project's own)
+abbrev pub VariablesFit : Type 0
+VariablesFit =
+    (region : Region) → region.first % 4 ≡ 0 → length region.bytes % 4 ≡ 0 → region.first ≤ length region.bytes
+    → records_room (region_map region) + region.first ≤ length region.bytes

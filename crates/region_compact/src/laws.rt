@@ -1,6 +1,6 @@
 //! Laws of compacted regions: each is the contract of a function that does nothing.
 ghost use Rattle.region_compact.specs.Laws.{CompactionsHaveTheirSize, CompactionsKeepTheMap, CompactionsKeepTheOrder, CompactionsLeaveOrder};
-ghost use Rattle.region_compact.specs.Laws.{CopiesKeepTheirHeaders, SizesAreTheRoom, SizesAreTheRoomNeeded};
+ghost use Rattle.region_compact.specs.Laws.{CopiesKeepTheirHeaders, SizesAreTheRoom, SizesAreTheRoomNeeded, VariablesFit};
 
 /// A compacted region has the map of before with the replacement, each key's variable once and ADDED, in the order of its record, and a clean tail.
 pub fn compactions_keep_the_map()
@@ -19,4 +19,9 @@ pub fn sizes_are_the_room()
     ensures bytes { CompactionsHaveTheirSize }
     ensures room { SizesAreTheRoom }
     ensures needed { SizesAreTheRoomNeeded }
+{}
+
+/// The variables of a region use at most the room that it has, whatever its bytes.
+pub fn variables_fit()
+    ensures { VariablesFit }
 {}

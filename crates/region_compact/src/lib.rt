@@ -12,7 +12,9 @@ mod sizes;
 mod tests;
 
 pub use compaction::compact;
-pub use laws::{compactions_keep_the_map, copies_keep_their_headers, sizes_are_the_room};
+pub use laws::{
+    compactions_keep_the_map, copies_keep_their_headers, sizes_are_the_room, variables_fit,
+};
 pub use no_room::NoRoom;
 pub use replace::Replace;
 pub use sizes::size_after;

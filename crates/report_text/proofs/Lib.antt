@@ -1,2 +1,4 @@
 pub mod Parts
 pub mod Held
+pub mod Puts
+pub mod RoomUsed

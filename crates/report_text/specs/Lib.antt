@@ -5,3 +5,6 @@ pub mod Stamp
 pub mod Line
 pub mod Listing
 pub mod Held
+pub mod Flow
+pub mod CheckWord
+pub mod Check

@@ -4,6 +4,7 @@ use Rattle.var_types.specs.Texts.{attributes_text, bytes_text, name_text, spaced
 use Rattle.script_text.specs.Texts.{call_text}
 use Rattle.report_text.specs.declared.part.Part.{Part}
 use Rattle.report_text.specs.declared.part.Part.TheVariants as part
+use Rattle.report_text.specs.CheckWord.{check_word_text}
 use Rattle.report_text.specs.Rule.{rule_text}
 use Rattle.report_text.specs.Stamp.{stamp_text}
 use Rattle.report_text.specs.Status.{status_text}
@@ -12,6 +13,7 @@ use Rattle.report_text.specs.Word.{word_text}
 -- the text of a part of a line
 abbrev pub part_text : Part → List ℕ
 part_text (part.Word word) = word_text word
+part_text (part.Check word) = check_word_text word
 part_text (part.Status status) = status_text status
 part_text (part.Rule rule) = rule_text rule
 part_text (part.Number n) = decimal n

@@ -1,7 +1,11 @@
-//! The lines that are printed: their words and parts, and the listing of a store's variables.
+//! The lines that are printed: their words and parts, the listing of a store's variables, and the page through which texts go to a sink.
 #![tactic(auto)]
 
+mod check;
+mod check_word;
 mod listing;
+mod outlet;
+mod page;
 mod part;
 mod rule;
 mod stamp;
@@ -11,7 +15,11 @@ mod tests;
 mod variables;
 mod word;
 
+pub use check::{CheckFacts, check_facts, write_check};
+pub use check_word::CheckWord;
 pub use listing::write_listing;
+pub use outlet::Outlet;
+pub use page::Page;
 pub use part::{Part, write_line, write_parts};
 pub use status::Status;
 pub use word::Word;

@@ -3,7 +3,7 @@ ghost use Rattle.report_text.specs.Line.{part_text, later_parts_text, parts_text
 
 use crate::rule::rule_text;
 use crate::stamp::write_stamp;
-use crate::{Status, Word};
+use crate::{CheckWord, Status, Word};
 use script_text::write_call;
 use var_types::text::{write_attributes, write_bytes, write_name, write_number};
 use var_types::{Call, Guid, Put, Rule, Stamp};
@@ -12,6 +12,7 @@ use var_types::{Call, Guid, Put, Rule, Stamp};
 #[derive(Clone, Copy, Debug)]
 pub enum Part<'a> {
     Word(Word),
+    Check(CheckWord),
     Status(Status),
     Rule(Rule),
     Number(u64),
@@ -28,6 +29,7 @@ fn write_part<P: Put>(part: &Part, out: &mut P)
 {
     match part {
         Part::Word(word) => out.put(word.text().as_bytes()),
+        Part::Check(word) => out.put(word.text().as_bytes()),
         Part::Status(status) => out.put(status.text().as_bytes()),
         Part::Rule(rule) => out.put(rule_text(*rule).as_bytes()),
         Part::Number(n) => write_number(*n, out),

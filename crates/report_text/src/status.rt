@@ -12,6 +12,8 @@ pub enum Status {
     Unsupported,
     WriteProtected,
     SecurityViolation,
+    AlreadyStarted,
+    DeviceError,
 }
 
 impl Status {
@@ -32,6 +34,8 @@ impl Status {
             Status::Unsupported => "UNSUPPORTED",
             Status::WriteProtected => "WRITE_PROTECTED",
             Status::SecurityViolation => "SECURITY_VIOLATION",
+            Status::AlreadyStarted => "ALREADY_STARTED",
+            Status::DeviceError => "DEVICE_ERROR",
         }
     }
 }

@@ -1,8 +1,9 @@
-use crate::{Part, Word, write_line, write_listing};
+use crate::{Outlet, Page, Part, Word, write_line, write_listing};
+use outside::MemSink;
 use std::alloc::{AllocError, Global};
 use std::test::Fail;
 use var_region::Region;
-use var_types::{Call, GetCall, Guid, OutOfMemory, Stamp, TextBuffer, Units};
+use var_types::{Call, GetCall, Guid, OutOfMemory, Put, Stamp, TextBuffer, Units};
 
 const ADDED: u8 = 0x3F;
 
@@ -294,5 +295,54 @@ fn parts_are_printed(rt: HostRuntime) -> Result<(), Fail> {
         b"no-such 18446744073709551615 0x00000027 01ff - 01010101-0101-0101-0101-010101010101 B%0020 \
         e7070c1f173b3a0000ca9a3bc4ff0100 - get 01010101-0101-0101-0101-010101010101 A 16\n";
     assert_eq!(rt; out.finish()?.as_slice(), want.as_slice());
+    Ok(())
+}
+
+// What a sink holds after texts of 40,000, 70,000 and 3 bytes and the digits of 40,000 bytes, and whether all of it was taken.
+fn through_a_page(alloc: Global, fails: &[u32]) -> Result<(Vec<u8>, bool), AllocError> {
+    let short = vec![in alloc; b'x'; 40_000]?;
+    let long = vec![in alloc; b'x'; 70_000]?;
+    let mut sink = MemSink::new(vec![in alloc; 0u8; 200_000]?, fails.to_vec(alloc)?);
+    let Ok(mut page) = Page::new(alloc) else {
+        return Ok((Vec::new(alloc), false));
+    };
+    let whole = {
+        let mut outlet = Outlet {
+            sink: &mut sink,
+            page: &mut page,
+        };
+        outlet.put(&short);
+        outlet.put(&long);
+        outlet.put(b"end");
+        outlet.put_hex(&short);
+        outlet.finish().is_ok()
+    };
+    Ok((sink.bytes().to_vec(alloc)?, whole))
+}
+
+#[test]
+fn texts_go_through_a_page(rt: HostRuntime) -> Result<(), Fail> {
+    // The numbers of the writes that fail, whether all was taken, and how many bytes were.
+    let cases: [(&[u32], bool, usize); 5] = [
+        (&[], true, 190_003),
+        (&[0], false, 0),
+        (&[1], false, 40_000),
+        (&[2], false, 110_000),
+        (&[3], false, 173_491),
+    ];
+    for (fails, whole, count) in cases {
+        let (bytes, all) = through_a_page(rt.alloc(), fails)?;
+        assert_eq!(rt; all, whole, "{fails:?}");
+        assert_eq!(rt; bytes.len(), count, "{fails:?}");
+        let front = bytes.len().min(110_000);
+        assert!(rt;
+            bytes[..front].iter().all(|byte| *byte == b'x'),
+            "{fails:?}"
+        );
+    }
+    let (bytes, _) = through_a_page(rt.alloc(), &[])?;
+    let middle = bytes.get(110_000..110_007);
+    assert_eq!(rt; middle, Some(b"end7878".as_slice()));
+    assert!(rt; bytes.ends_with(b"7878"));
     Ok(())
 }

@@ -1,6 +1,7 @@
 //! The variables of a region, each by the record that counts for its key, found in one pass.
 ghost use Rattle.std.specs.Prelude.{◌≡◌, ◌≤◌, length, map, IfOk, OnOk};
 ghost use Rattle.var_region.specs.Found.{seen, seen_key};
+ghost use Rattle.var_types.specs.Census.{records_room};
 ghost use Rattle.var_types.specs.Layout.{most_units};
 ghost use Rattle.var_types.specs.Region.{region_map};
 ghost use Rattle.report_text.specs.Held.{entry_of, held_after, held_entry};
@@ -41,7 +42,8 @@ pub(crate) fn variables_of<'a>(
     alloc: Global,
     region: &Region<'a>,
 ) -> Result<BTreeMap<Key, Found<'a>>, OutOfMemory>
-    ensures { IfOk result (λ held. map entry_of held.entries ≡ region_map region.now) }
+    ensures map { IfOk result (λ held. map entry_of held.entries ≡ region_map region.now) }
+    ensures room { IfOk result (λ held. records_room (map entry_of held.entries) ≤ 131078) }
 {
     let mut held = BTreeMap::new(alloc);
     for found in region.lives() {

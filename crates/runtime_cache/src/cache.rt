@@ -1,20 +1,20 @@
-ghost use Rattle.std.specs.Prelude.{◌≡◌, ◌/◌, ◌≤◌, length, min, IfOk, Some};
+ghost use Rattle.std.specs.Prelude.{◌≡◌, ◌+◌, ◌/◌, ◌≤◌, length, min, IfOk, Some};
 ghost use Rattle.var_types.specs.Answers.{get_answer, next_answer};
 ghost use Rattle.var_types.specs.Get.{get_reply};
 ghost use Rattle.var_types.specs.Layout.{longest_region, volatile_size, volume_size};
 ghost use Rattle.var_types.specs.Next.{next_reply};
-ghost use Rattle.var_types.specs.Stores.{HaveSizes, map_in, state_in, store_region};
+ghost use Rattle.var_types.specs.Placed.{placed};
+ghost use Rattle.var_types.specs.Stores.{HaveSizes, bytes_in, map_in, state_in, store_region, with_store};
 ghost use Rattle.var_types.specs.TwoRegions.{AreApart};
 ghost use Rattle.var_types.specs.declared.store.Store.TheVariants.{NonVolatile, Volatile};
 ghost use Rattle.runtime_cache.specs.Merged.{merged};
 
 use crate::get_variable::get;
 use crate::next_variable_name::next;
-use crate::store_region::region_in;
 use pending_range::Ranges;
 use std::alloc::Global;
 use std::marker::Model;
-use var_region::Region;
+use var_region::{Region, region_in};
 use var_types::{GetAnswer, Guid, NextAnswer, OutOfMemory, Store};
 
 /// A copy of both stores and the phase, from which reads are answered while the writer changes its own. It takes memory when it is made, and
@@ -105,6 +105,47 @@ impl Cache {
         )
     }
 
+    pub fn non_volatile_bytes(&self) -> &[u8]
+        ensures bytes { result.now ≡ self.now.non_volatile }
+        ensures size { length self.now.non_volatile ≡ volume_size }
+    {
+        &self.non_volatile
+    }
+
+    pub fn volatile_bytes(&self) -> &[u8]
+        ensures bytes { result.now ≡ self.now.volatile }
+        ensures size { length self.now.volatile ≡ volatile_size }
+    {
+        &self.volatile
+    }
+
+    /// Whether the phase is runtime.
+    pub fn runtime(&self) -> bool
+        ensures { result ≡ self.now.runtime }
+    {
+        self.runtime
+    }
+
+    /// Writes bytes over those of one of its stores at an offset.
+    pub fn write(&mut self, store: Store, at: u32, bytes: &[u8])
+        requires { at + length bytes.now ≤ length (bytes_in self.old store) }
+        ensures is { self.new ≡ with_store self.old store (placed at bytes.now (bytes_in self.old store)) }
+        ensures sizes { HaveSizes self.new }
+    {
+        match store {
+            Store::NonVolatile => write_at(&mut self.non_volatile, at, bytes),
+            Store::Volatile => write_at(&mut self.volatile, at, bytes),
+        }
+    }
+
+    /// Turns the phase.
+    pub fn turn(&mut self, phase: bool)
+        ensures is { self.new ≡ record self.old { runtime = phase } }
+        ensures sizes { HaveSizes self.new }
+    {
+        self.runtime = phase;
+    }
+
     /// Takes from the stores the bytes that the ranges cover, and the phase; it looks at no record.
     pub fn merge(&mut self, non_volatile: &[u8], volatile: &[u8], runtime: bool, ranges: &Ranges)
         requires non_volatile { length non_volatile.now ≡ volume_size }
@@ -117,4 +158,15 @@ impl Cache {
         ranges.copy_covered(Store::Volatile, volatile, &mut self.volatile);
         self.runtime = runtime;
     }
+}
+
+// Writes bytes over others at an offset.
+#[tactic(auto, unfolding(var_types::specs::Placed::placed))]
+fn write_at(into: &mut [u8], at: u32, bytes: &[u8])
+    requires { at + length bytes.now ≤ length into.old }
+    ensures is { into.new ≡ placed at bytes.now into.old }
+    ensures len { length into.new ≡ length into.old }
+{
+    let from = at as usize;
+    into[from..from + bytes.len()].copy_from_slice(bytes);
 }

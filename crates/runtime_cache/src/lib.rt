@@ -6,7 +6,6 @@ mod get_variable;
 mod laws;
 mod next_variable_name;
 mod search;
-mod store_region;
 #[cfg(test)]
 mod tests;
 
@@ -15,4 +14,3 @@ pub use get_variable::get;
 pub use laws::merged_caches_are_the_stores;
 pub use next_variable_name::next;
 pub use search::{above, stored};
-pub use store_region::region_in;

@@ -1,5 +1,5 @@
 -- The line of a call reads back as the call.
-use Rattle.std.proofs.Common.{◌≡◌, ℕ, ◌<◌, ◌≤◌, true, false, ltb, List, [], ◌∷◌, ◌++◌, length, Some, Ok, refl, sym, ap, ◌∙◌, arith, codes}
+use Rattle.std.proofs.Common.{◌^◌, ◌≡◌, ℕ, ◌<◌, ◌≤◌, true, false, ltb, List, [], ◌∷◌, ◌++◌, length, Some, Ok, refl, ap, ◌∙◌, arith, codes}
 use Rattle.std.specs.Fmt.{decimal}
 use Rattle.std.specs.List.{AllByRecursion, list_all}
 use Rattle.std.specs.Str.Lines.{lines}
@@ -10,17 +10,20 @@ use Rattle.var_types.specs.declared.call.Call.{Call}
 use Rattle.var_types.specs.declared.call.Call.TheVariants as call
 use Rattle.var_types.specs.declared.call.SetCall.{SetCall}
 use Rattle.var_types.specs.declared.guid.Guid.{Guid}
+use Rattle.var_types.specs.declared.policy_call.PolicyCall.{PolicyCall}
+use Rattle.var_types.specs.declared.policy_call.PolicyCall.TheVariants as policy
 use Rattle.var_types.specs.declared.verdict.Verdict.{Verdict}
 use Rattle.var_types.specs.declared.verdict.Verdict.TheVariants.{Bad, Good}
 use Rattle.var_types.specs.Guid.{IsGuid, guid_text}
+use Rattle.var_types.specs.Values.{AreBytes}
 use Rattle.var_types.proofs.Guids.{guid_of-guid_text, guid_text_between, length-guid_text}
 use Rattle.script_text.specs.Lines.{is_text, words_of}
 use Rattle.script_text.specs.Numbers.{processor_of}
-use Rattle.script_text.specs.ReadBack.{IsReadable, IsReadableFind, IsReadableSet, line_of}
+use Rattle.script_text.specs.ReadBack.{IsReadable, IsReadableFind, IsReadablePolicy, IsReadableSet, line_of}
 use Rattle.script_text.specs.Script.{calls_from, most_script_bytes, script_of}
 use Rattle.var_types.specs.Texts.{attributes_text, bytes_text, name_text, spaced}
-use Rattle.script_text.specs.Texts.{call_text, call_words_of, verdict_words}
-use Rattle.script_text.specs.Words.{call_words, exit_words, get_call, get_words, guid_read, guid_word, line_call, next_call, next_words, set_call, set_words, verb_of, verb_words, verdict_of, words_call}
+use Rattle.script_text.specs.Texts.{call_text, call_words_of, policy_words_of, verdict_words}
+use Rattle.script_text.specs.Words.{bare_words, call_words, get_call, get_words, guid_read, guid_word, line_call, next_call, next_words, policy_call, policy_words, register_call, register_words, set_call, set_words, verb_of, verb_words, verdict_of, words_behind, words_call}
 use Rattle.script_text.proofs.LineLemmas.{lines-ended_line, lines-one_line}
 use Rattle.script_text.proofs.NameTexts.{IsWord-name_text, name_of-name_text}
 use Rattle.script_text.proofs.NumberTexts.{IsWord-attributes_text, IsWord-bytes_text, IsWord-decimal, bytes_of-bytes_text, number_of-attributes_text, number_of-decimal}
@@ -57,6 +60,16 @@ are_verdict_words : (verdict : Verdict) → AllByRecursion IsWord (verdict_words
 are_verdict_words Good = tt
 are_verdict_words Bad = (record { some = omega arith; printed = refl }, tt)
 
+-- the line of a call about the policies is of words
+are_policy_words : (c : PolicyCall) → IsReadablePolicy c → AllByRecursion IsWord (codes "0" ∷ policy_words_of c)
+are_policy_words (policy.Register bytes) readable =
+    verb_first (codes "register") (bytes_text bytes ∷ []) (omega arith) refl (IsWord-bytes_text bytes readable, tt)
+are_policy_words policy.Lock readable = verb_first (codes "lock") [] (omega arith) refl tt
+are_policy_words policy.Disable readable = verb_first (codes "disable") [] (omega arith) refl tt
+are_policy_words policy.Enabled readable = verb_first (codes "enabled") [] (omega arith) refl tt
+are_policy_words (policy.At place) readable =
+    verb_first (codes "policy") (decimal place ∷ []) (omega arith) refl (IsWord-decimal place readable, tt)
+
 -- a call's line is of words
 are_call_words : (call : Call) → IsReadable call → AllByRecursion IsWord (codes "0" ∷ call_words_of call)
 are_call_words (call.Get c) readable =
@@ -70,6 +83,7 @@ are_call_words (call.Set c) readable =
     verb_first (codes "set") (guid_text c.guid ∷ name_text c.name ∷ words) (omega arith) refl
     (named_words c.guid c.name words
     (IsWord-attributes_text c.attributes, (IsWord-bytes_text c.bytes readable.bytes_fit, are_verdict_words c.verdict)))
+are_call_words (call.Policy c) readable = are_policy_words c readable
 are_call_words call.ExitBoot readable = verb_first (codes "exitboot") [] (omega arith) refl tt
 
 -- ---- the words are read as the call
@@ -120,9 +134,28 @@ unfolding set_words verdict_of
 set_words-verdict guid name attributes bytes Good = refl
 set_words-verdict guid name attributes bytes Bad = refl
 
+-- the words of a register are read as it
+reads_register : (bytes : List ℕ) → AreBytes bytes → register_call (bytes_text bytes) ≡ Ok (call.Policy (policy.Register bytes))
+unfolding register_call
+reads_register bytes are = rw (bytes_of-bytes_text bytes are) refl
+
+-- those of a call for a policy's entry
+reads_place : (place : ℕ) → place < 2 ^ 32 → policy_call (decimal place) ≡ Ok (call.Policy (policy.At place))
+unfolding policy_call
+reads_place place fits = rw (number_of-decimal place fits) refl
+
+-- the words of the line of a call about the policies are read as the call
+words_call-policy : (c : PolicyCall) → IsReadablePolicy c → words_call (codes "0" ∷ policy_words_of c) ≡ Ok (Some (0, call.Policy c))
+unfolding words_call processor_of call_words verb_of verb_words words_behind register_words policy_words bare_words
+words_call-policy (policy.Register bytes) readable = rw (reads_register bytes readable) refl
+words_call-policy policy.Lock readable = refl
+words_call-policy policy.Disable readable = refl
+words_call-policy policy.Enabled readable = refl
+words_call-policy (policy.At place) readable = rw (reads_place place readable) refl
+
 -- the words of a call's line are read as the call
 words_call-call : (call : Call) → IsReadable call → words_call (codes "0" ∷ call_words_of call) ≡ Ok (Some (0, call))
-unfolding words_call processor_of call_words verb_of verb_words get_words next_words exit_words
+unfolding words_call processor_of call_words verb_of verb_words words_behind get_words next_words bare_words
 words_call-call (call.Get c) readable = rw (reads_get c.guid c.name c.room readable) refl
 words_call-call (call.Next c) readable = rw (reads_next c.guid c.name c.room readable) refl
 words_call-call (call.Set c) readable =
@@ -130,27 +163,38 @@ words_call-call (call.Set c) readable =
       set_words-verdict (guid_text c.guid) (name_text c.name) (attributes_text c.attributes) (bytes_text c.bytes) c.verdict,
       reads_set c readable,
     ) refl
+words_call-call (call.Policy c) readable = words_call-policy c readable
 words_call-call call.ExitBoot readable = refl
 
 -- ---- the line is read as the call
 
--- the line of a call is its words, spaced
-line_of-spaced : (call : Call) → line_of call ≡ spaced (codes "0" ∷ call_words_of call)
+-- the line of a call about the policies is its words, spaced
+line_of-policy : (c : PolicyCall) → line_of (call.Policy c) ≡ spaced (codes "0" ∷ call_words_of (call.Policy c))
 unfolding call_text
-line_of-spaced (call.Get c) = refl
-line_of-spaced (call.Next c) = refl
-line_of-spaced (call.Set c) = refl
-line_of-spaced call.ExitBoot = refl
+line_of-policy (policy.Register bytes) = refl
+line_of-policy policy.Lock = refl
+line_of-policy policy.Disable = refl
+line_of-policy policy.Enabled = refl
+line_of-policy (policy.At place) = refl
+
+-- the line of a call is its words, spaced
+line_of-spaced : (call : Call) → IsReadable call → line_of call ≡ spaced (codes "0" ∷ call_words_of call)
+unfolding call_text
+line_of-spaced (call.Get c) readable = refl
+line_of-spaced (call.Next c) readable = refl
+line_of-spaced (call.Set c) readable = refl
+line_of-spaced (call.Policy c) readable = line_of-policy c
+line_of-spaced call.ExitBoot readable = refl
 
 -- the line of a call may stand in a script
 is_text-line_of : (call : Call) → IsReadable call → is_text (line_of call) ≡ true
 is_text-line_of call readable =
-    ap is_text (line_of-spaced call) ∙ is_text-spaced (codes "0" ∷ call_words_of call) (are_call_words call readable)
+    ap is_text (line_of-spaced call readable) ∙ is_text-spaced (codes "0" ∷ call_words_of call) (are_call_words call readable)
 
 -- the words of the line of a call
 words_of-line_of : (call : Call) → IsReadable call → words_of (line_of call) ≡ codes "0" ∷ call_words_of call
 words_of-line_of call readable =
-    ap words_of (line_of-spaced call) ∙ words_of-spaced (codes "0" ∷ call_words_of call) (are_call_words call readable)
+    ap words_of (line_of-spaced call readable) ∙ words_of-spaced (codes "0" ∷ call_words_of call) (are_call_words call readable)
 
 -- the line of a call is read as the call
 line_call-line_of : (call : Call) → IsReadable call → line_call (line_of call) ≡ Ok (Some (0, call))

@@ -7,3 +7,6 @@ pub mod HexTexts
 pub mod NumberTexts
 pub mod NameTexts
 pub mod CallTexts
+pub mod PartLemmas
+pub mod WordCounts
+pub mod FirstLines

@@ -15,16 +15,16 @@ abbrev pub is_feed : ℕ → Bool
 is_feed c = eqb c 10
 
 -- what a position says
-found : (b : Bool) (at end : ℕ) → Some end ≡ cond b (Some at) None → (b ≡ true) × (end ≡ at)
+pub found : (b : Bool) (at end : ℕ) → Some end ≡ cond b (Some at) None → (b ≡ true) × (end ≡ at)
 found true at end h = (refl, cc)
 found false at end h = absurd cc
 
-missing : (b : Bool) (at : ℕ) → None ≡ cond b (Some at) None → b ≡ false
+pub missing : (b : Bool) (at : ℕ) → None ≡ cond b (Some at) None → b ≡ false
 missing true at h = absurd cc
 missing false at h = refl
 
 -- a part with parts behind it is a line less its carriage return
-more_parts : (part : List ℕ) (parts : List (List ℕ)) → 0 < length parts → lines_of_parts (part ∷ parts) ≡ strip_carriage_return part ∷ lines_of_parts parts
+pub more_parts : (part : List ℕ) (parts : List (List ℕ)) → 0 < length parts → lines_of_parts (part ∷ parts) ≡ strip_carriage_return part ∷ lines_of_parts parts
 more_parts part [] h = absurd (omega arith)
 more_parts part (next ∷ parts) h = refl
 
@@ -63,7 +63,7 @@ no_return : (c : ℕ) → is_text_byte c ≡ true → eqb c 13 ≡ false
 no_return c h = grind (arith, nat_tests)
 
 -- a line has no line feed
-no_feeds : (line : List ℕ) → is_text line ≡ true → All (λ c. is_feed c ≡ false) line
+pub no_feeds : (line : List ℕ) → is_text line ≡ true → All (λ c. is_feed c ≡ false) line
 no_feeds line text = All-weaker (λ c. is_text_byte c ≡ true) (λ c. is_feed c ≡ false) no_feed line (AllPass-from_list_all is_text_byte line text)
 
 -- a text of a line's characters is one line
@@ -73,7 +73,7 @@ lines-one_line line some text =
     ap lines_of_parts (slice_split_none is_feed line (no_feeds line text)) ∙ rw longer refl
 
 -- a line keeps its last character, which is no carriage return
-strip_none : (line : List ℕ) → 0 < length line → is_text line ≡ true → strip_carriage_return line ≡ line
+pub strip_none : (line : List ℕ) → 0 < length line → is_text line ≡ true → strip_carriage_return line ≡ line
 strip_none line some text =
     let last : is_text_byte (slice_index line (length line - 1)) ≡ true = AllPass-from_list_all is_text_byte line text (length line - 1) 0 (omega arith) in
     let other : eqb (slice_index line (length line - 1)) 13 ≡ false = no_return (slice_index line (length line - 1)) last in

@@ -5,10 +5,9 @@ use Rattle.std.specs.Prelude.{◌==◌, not, if◌then◌else◌}
 use Rattle.script_text.specs.declared.line_reason.LineReason.{LineReason}
 use Rattle.script_text.specs.declared.line_reason.LineReason.TheVariants as reason
 use Rattle.script_text.specs.declared.verb.Verb.{Verb}
-use Rattle.script_text.specs.declared.verb.Verb.TheVariants as verb
 use Rattle.script_text.specs.Lines.{is_comment, is_text, words_of}
 use Rattle.script_text.specs.Numbers.{processor_of}
-use Rattle.script_text.specs.Words.{call_words, exit_words, get_words, line_call, next_words, set_words, verb_of, verb_words, words_call, ◌>>=◌}
+use Rattle.script_text.specs.Words.{call_words, line_call, verb_of, verb_words, words_behind, words_call, ◌>>=◌}
 use Rattle.var_types.specs.declared.call.Call.{Call}
 
 -- a choice that is no refusal is the first of its two
@@ -19,11 +18,7 @@ chosen_first false x read e h = cc
 -- a verb's words are a call of processor 0 alone
 verb_words-processor : (processor : ℕ) (v : Verb) (rest : List (List ℕ)) (call : Call) → verb_words processor v rest ≡ Ok call → processor ≡ 0
 unfolding verb_words
-verb_words-processor processor verb.Get rest call h = eqb-true processor 0 (chosen_first (processor == 0) call (get_words rest) reason.Later h)
-verb_words-processor processor verb.Next rest call h = eqb-true processor 0 (chosen_first (processor == 0) call (next_words rest) reason.Later h)
-verb_words-processor processor verb.Set rest call h = eqb-true processor 0 (chosen_first (processor == 0) call (set_words rest) reason.Later h)
-verb_words-processor processor verb.ExitBoot rest call h = eqb-true processor 0 (chosen_first (processor == 0) call (exit_words rest) reason.Later h)
-verb_words-processor processor verb.Later rest call h = cc
+verb_words-processor processor v rest call h = eqb-true processor 0 (chosen_first (processor == 0) call (words_behind v rest) reason.Later h)
 
 -- so are the words behind a processor's number
 call_words-processor : (processor : ℕ) (words : List (List ℕ)) (call : Call) → call_words processor words ≡ Ok call → processor ≡ 0

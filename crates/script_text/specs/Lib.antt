@@ -9,3 +9,4 @@ pub mod Texts
 pub mod Gives
 pub mod GivesLine
 pub mod ReadBack
+pub mod FirstLine

@@ -3,6 +3,8 @@ use Rattle.var_types.specs.declared.call.Call.{Call}
 use Rattle.var_types.specs.declared.call.Call.TheVariants as call
 use Rattle.var_types.specs.declared.call.SetCall.{SetCall}
 use Rattle.var_types.specs.declared.guid.Guid.{Guid}
+use Rattle.var_types.specs.declared.policy_call.PolicyCall.{PolicyCall}
+use Rattle.var_types.specs.declared.policy_call.PolicyCall.TheVariants as policy
 use Rattle.var_types.specs.Guid.{IsGuid}
 use Rattle.var_types.specs.Layout.{most_units}
 use Rattle.var_types.specs.Values.{AreBytes, AreUnits}
@@ -26,11 +28,18 @@ pub record IsReadableSet (call : SetCall) : Type 0 where
   pub attributes_fit : call.attributes < 2 ^ 32
   pub bytes_fit : AreBytes call.bytes
 
+-- the parts of a call about the policies are values of their types
+abbrev pub IsReadablePolicy : PolicyCall → Type 0
+IsReadablePolicy (policy.Register bytes) = AreBytes bytes
+IsReadablePolicy (policy.At place) = place < 2 ^ 32
+IsReadablePolicy _ = Unit {0}
+
 -- the parts of a call are values of their types
 abbrev pub IsReadable : Call → Type 0
 IsReadable (call.Get c) = IsReadableFind c.guid c.name c.room
 IsReadable (call.Next c) = IsReadableFind c.guid c.name c.room
 IsReadable (call.Set c) = IsReadableSet c
+IsReadable (call.Policy c) = IsReadablePolicy c
 IsReadable call.ExitBoot = Unit {0}
 
 -- the line of a call of processor 0, without its line end

@@ -1,8 +1,9 @@
-use Rattle.std.specs.Prelude.{ℕ, ◌==◌, ◌&&◌, ◌||◌, not, Bool, true, false, List, [], ◌∷◌, codes, if◌then◌else◌, Option, Some, None, Result, Ok, Err}
+use Rattle.std.specs.Prelude.{ℕ, ◌==◌, not, Bool, List, [], ◌∷◌, codes, if◌then◌else◌, Option, Some, None, Result, Ok, Err}
 use Rattle.var_types.specs.declared.call.Call.{Call}
 use Rattle.var_types.specs.declared.call.Call.TheVariants as call
 use Rattle.var_types.specs.declared.guid.Guid.{Guid}
 use Rattle.var_types.specs.declared.guid.NotAGuid.{NotAGuid}
+use Rattle.var_types.specs.declared.policy_call.PolicyCall.TheVariants as policy
 use Rattle.var_types.specs.declared.verdict.Verdict.{Verdict}
 use Rattle.var_types.specs.declared.verdict.Verdict.TheVariants.{Bad, Good}
 use Rattle.var_types.specs.Guid.{guid_of}
@@ -25,20 +26,18 @@ abbrev pub ◌>>=◌ : {A B E : Type 0} → Result A E → (A → Result B E) �
 abbrev pub is_word : List ℕ → List ℕ → Bool
 is_word text word = pointwise ◌==◌ word text
 
--- whether a word is a verb of the format whose lines are not read yet
-abbrev pub is_later_verb : List ℕ → Bool
-is_later_verb word =
-    is_word (codes "register") word || is_word (codes "lock") word || is_word (codes "disable") word
-    || is_word (codes "enabled") word || is_word (codes "policy") word
-
 -- the verb of a word (this project's own)
 unfoldable pub verb_of : List ℕ → Result Verb LineReason
 verb_of word =
     if is_word (codes "get") word then Ok verb.Get
     else if is_word (codes "next") word then Ok verb.Next
     else if is_word (codes "set") word then Ok verb.Set
+    else if is_word (codes "register") word then Ok verb.Register
+    else if is_word (codes "lock") word then Ok verb.Lock
+    else if is_word (codes "disable") word then Ok verb.Disable
+    else if is_word (codes "enabled") word then Ok verb.Enabled
+    else if is_word (codes "policy") word then Ok verb.Policy
     else if is_word (codes "exitboot") word then Ok verb.ExitBoot
-    else if is_later_verb word then Ok verb.Later
     else Err reason.Verb
 
 -- the GUID of a word
@@ -92,24 +91,59 @@ unfoldable pub next_words : List (List ℕ) → Result Call LineReason
 next_words (guid ∷ name ∷ room ∷ []) = next_call guid name room
 next_words _ = Err reason.Words
 
--- the words behind `set`: without a verdict it is good
+-- the verdict behind the other words of a set: without one it is good (this project's own)
+abbrev pub last_verdict : List (List ℕ) → Result (Result Verdict LineReason) LineReason
+last_verdict [] = Ok (Ok Good)
+last_verdict (verdict ∷ []) = Ok (verdict_of verdict)
+last_verdict (verdict ∷ more ∷ rest) = Err reason.Words
+
+-- the words behind `set`
 unfoldable pub set_words : List (List ℕ) → Result Call LineReason
-set_words (guid ∷ name ∷ attributes ∷ bytes ∷ []) = set_call guid name attributes bytes (Ok Good)
-set_words (guid ∷ name ∷ attributes ∷ bytes ∷ verdict ∷ []) = set_call guid name attributes bytes (verdict_of verdict)
+set_words (guid ∷ name ∷ attributes ∷ bytes ∷ rest) = last_verdict rest >>= set_call guid name attributes bytes
 set_words _ = Err reason.Words
 
--- the words behind `exitboot`: there are none
-unfoldable pub exit_words : List (List ℕ) → Result Call LineReason
-exit_words [] = Ok call.ExitBoot
-exit_words _ = Err reason.Words
+-- a register by the bytes of its entry
+unfoldable pub register_call : List ℕ → Result Call LineReason
+register_call bytes = do
+  bytes ← bytes_of bytes
+  Ok (call.Policy (policy.Register bytes))
+
+-- the words behind `register`
+unfoldable pub register_words : List (List ℕ) → Result Call LineReason
+register_words (bytes ∷ []) = register_call bytes
+register_words _ = Err reason.Words
+
+-- a call for a policy's entry by its place
+unfoldable pub policy_call : List ℕ → Result Call LineReason
+policy_call place = do
+  place ← number_of place
+  Ok (call.Policy (policy.At place))
+
+-- the words behind `policy`
+unfoldable pub policy_words : List (List ℕ) → Result Call LineReason
+policy_words (place ∷ []) = policy_call place
+policy_words _ = Err reason.Words
+
+-- a call whose verb has no words behind it
+unfoldable pub bare_words : Call → List (List ℕ) → Result Call LineReason
+bare_words c [] = Ok c
+bare_words c _ = Err reason.Words
+
+-- the words behind a verb
+unfoldable pub words_behind : Verb → List (List ℕ) → Result Call LineReason
+words_behind verb.Get rest = get_words rest
+words_behind verb.Next rest = next_words rest
+words_behind verb.Set rest = set_words rest
+words_behind verb.Register rest = register_words rest
+words_behind verb.Lock rest = bare_words (call.Policy policy.Lock) rest
+words_behind verb.Disable rest = bare_words (call.Policy policy.Disable) rest
+words_behind verb.Enabled rest = bare_words (call.Policy policy.Enabled) rest
+words_behind verb.Policy rest = policy_words rest
+words_behind verb.ExitBoot rest = bare_words call.ExitBoot rest
 
 -- the words behind a verb; so far, processor 0 alone makes calls
 unfoldable pub verb_words : ℕ → Verb → List (List ℕ) → Result Call LineReason
-verb_words processor verb.Get rest = if processor == 0 then get_words rest else Err reason.Later
-verb_words processor verb.Next rest = if processor == 0 then next_words rest else Err reason.Later
-verb_words processor verb.Set rest = if processor == 0 then set_words rest else Err reason.Later
-verb_words processor verb.ExitBoot rest = if processor == 0 then exit_words rest else Err reason.Later
-verb_words processor verb.Later rest = Err reason.Later
+verb_words processor v rest = if processor == 0 then words_behind v rest else Err reason.Later
 
 -- the words behind the processor's number
 unfoldable pub call_words : ℕ → List (List ℕ) → Result Call LineReason

@@ -49,7 +49,7 @@ fn units_of(alloc: Global, word: &[u8]) -> Result<Vec<u16>, LineFault>
     ensures limit { IfOk result (λ units. length units.items ≤ most_units) }
     ensures err { IfErr result (λ e. IsLineRefusal e (name_within (units_of word.now))) }
 {
-    let mut units = Vec::new(alloc);
+    let mut units = Vec::with_capacity(alloc, word.len().min(MOST_UNITS))?;
     let mut rest = word;
     'units: while !rest.is_empty() {
         let Some((unit, behind)) = first_unit(rest) else {

@@ -1,13 +1,14 @@
-ghost use Rattle.std.specs.Prelude.{◌≡◌, ◌≤◌, [], ◌∷◌, length, map, Ok, IfOk, IfErr, OnOk};
+ghost use Rattle.std.specs.Prelude.{◌≡◌, ◌≤◌, true, false, [], ◌∷◌, length, map, Ok, IfOk, IfErr, OnOk};
 ghost use Rattle.std.specs.Str.Lines.{lines};
 ghost use Rattle.script_text.specs.Gives.{Gives, IsRefusal};
+ghost use Rattle.script_text.specs.Lines.{is_comment, is_text};
 ghost use Rattle.script_text.specs.Script.{after_call, after_line, calls_from, most_script_bytes, script_of};
 ghost use Rattle.script_text.specs.Words.{line_call};
 
-use crate::ScriptFault;
 use crate::line_fault::LineFault;
-use crate::lines::first_line;
+use crate::lines::text_line;
 use crate::words::line_call;
+use crate::{LineReason, ScriptFault};
 use std::alloc::Global;
 use std::marker::Model;
 use var_types::Call;
@@ -71,6 +72,7 @@ fn read_line(
     line: &[u8],
     calls: &mut Vec<Call>,
 ) -> Result<(), ScriptFault>
+    requires { is_comment line.now ≡ false → is_text line.now ≡ true }
     ensures ok { OnOk result (after_line number (calls.old.items ∷ []) (line_call line.now) ≡ Ok (calls.new.items ∷ [])) }
     ensures err { IfErr result (λ e. IsRefusal e (after_line number (calls.old.items ∷ []) (line_call line.now))) }
 {
@@ -92,7 +94,10 @@ fn calls_of(alloc: Global, text: &[u8]) -> Result<Vec<Call>, ScriptFault>
     let mut rest = text;
     let mut number = 1;
     'lines: while !rest.is_empty() {
-        let (line, behind) = first_line(rest);
+        let Some((line, behind)) = text_line(rest) else {
+            let reason = LineReason::Text;
+            return Err(ScriptFault::Line { number, reason });
+        };
         read_line(alloc, number, line, &mut calls)?;
         rest = behind;
         number += 1;

@@ -33,7 +33,7 @@ fn texts_of(rt: &HostRuntime, script: Script) -> Result<Vec<u8>, Fail> {
 
 #[test]
 fn reads(rt: HostRuntime) -> Result<(), Fail> {
-    let table: [(&[u8], &[u8]); 28] = [
+    let table: [(&[u8], &[u8]); 33] = [
         (b"", b""),
         (b"\n \n\t\n\r\n", b""),
         (b"0 get G A 16", b"get G A 16\n"),
@@ -66,6 +66,11 @@ fn reads(rt: HostRuntime) -> Result<(), Fail> {
         (b"0 set G A 0xFFFFFFFF - bad", b"set G A 0xffffffff - bad\n"),
         (b"0 set G A 4294967295 -", b"set G A 0xffffffff -\n"),
         (b"0 set G A 0x47 01\tgood ", b"set G A 0x00000047 01\n"),
+        (b"0 register 0aFF", b"register 0aff\n"),
+        (b"0 register -", b"register -\n"),
+        (b"0 lock\n0 disable", b"lock\ndisable\n"),
+        (b"0\tenabled ", b"enabled\n"),
+        (b"0 policy 0x10", b"policy 16\n"),
         (b" 0\texitboot \r\n", b"exitboot\n"),
         (
             b"0 set G -%0025%000A~! 6 -",
@@ -119,12 +124,9 @@ fn refuses_a_line_by_its_front(rt: HostRuntime) -> Result<(), Fail> {
                 b"1 get G A 9",
                 b"1 next G A 9",
                 b"7 set x",
-                b"0 register",
-                b"0 lock",
-                b"0 disable",
-                b"0 enabled",
-                b"0 policy",
-                b"0 policy x y",
+                b"1 register",
+                b"2 lock now",
+                b"7 policy x",
                 b"1 exitboot",
                 b"7 exitboot now",
             ],
@@ -149,6 +151,13 @@ const BAD_WORDS: [(LineReason, &[&[u8]]); 6] = [
             b"0 set",
             b"0 set G",
             b"0 set x A 6 01 good y",
+            b"0 register",
+            b"0 register zz 0",
+            b"0 lock now",
+            b"0 disable -",
+            b"0 enabled 1",
+            b"0 policy",
+            b"0 policy x y",
             b"0 exitboot 0",
             b"0 exitboot - -",
         ],
@@ -176,6 +185,8 @@ const BAD_WORDS: [(LineReason, &[&[u8]]); 6] = [
             b"0 get G A 0X10",
             b"0 get G A -",
             b"0 set G A 6x zz",
+            b"0 policy -",
+            b"0 policy 4294967296",
         ],
     ),
     (
@@ -185,6 +196,8 @@ const BAD_WORDS: [(LineReason, &[&[u8]]); 6] = [
             b"0 set G A 6 zz",
             b"0 set G A 6 0g good",
             b"0 set G A 6 0g worse",
+            b"0 register 0",
+            b"0 register -00",
         ],
     ),
     (

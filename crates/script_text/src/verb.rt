@@ -4,7 +4,10 @@ pub enum Verb {
     Get,
     Next,
     Set,
+    Register,
+    Lock,
+    Disable,
+    Enabled,
+    Policy,
     ExitBoot,
-    /// A verb of the format whose lines are not read yet.
-    Later,
 }

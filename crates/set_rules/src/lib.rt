@@ -4,6 +4,7 @@
 mod call_cases;
 mod front_cases;
 mod reading;
+mod room_totals;
 mod refuse_if;
 mod room_cases;
 mod rule;
@@ -14,3 +15,4 @@ mod view;
 
 pub use rule::decide;
 pub use view::{Stored, View};
+pub use room_totals::RoomTotals;

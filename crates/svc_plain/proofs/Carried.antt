@@ -1,7 +1,7 @@
 -- What may be put has room.
 use Rattle.std.proofs.Common.{◌≡◌, ◌≤◌, Bool, subst, sym}
 use Rattle.std.specs.Prelude.{ℕ}
-use Rattle.svc_plain.specs.RoomTotals.{HasRoom}
+use Rattle.set_rules.specs.RoomTotals.{HasRoom}
 use Rattle.var_types.specs.Attributes.{store_of}
 use Rattle.var_types.specs.Reading.{set_key}
 use Rattle.var_types.specs.Room.{room_limit, room_needed}

@@ -1,5 +1,5 @@
 -- Facts of a result, by whether it is Ok.
-use Rattle.std.proofs.Common.{◌≡◌, Bool, false}
+use Rattle.std.proofs.Common.{◌≡◌, false}
 use Rattle.std.specs.Prelude.{Result, Ok, Err, OnErr, OnOk}
 use Rattle.std.specs.Result.{is_err}
 

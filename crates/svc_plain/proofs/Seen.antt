@@ -1,6 +1,6 @@
 -- What callers see of a variable.
 use Rattle.std.proofs.Common.{◌≡◌, Bool, true, false, refl}
-use Rattle.std.specs.Prelude.{not, ◌&&◌, if◌then◌else◌, Option, Some, None, is_some}
+use Rattle.std.specs.Prelude.{not, ◌&&◌, if◌then◌else◌, Some, None, is_some}
 use Rattle.var_types.specs.Attributes.{has, runtime_access_bit}
 use Rattle.var_types.specs.Least.{is_shown}
 use Rattle.var_types.specs.State.{seen_at}

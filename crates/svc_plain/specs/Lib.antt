@@ -1,4 +1,3 @@
-pub mod RoomTotals
 pub mod Above
 pub mod Stands
 pub mod Written

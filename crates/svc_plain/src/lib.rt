@@ -3,10 +3,12 @@
 
 mod gets;
 mod key_view;
+mod map_view;
 mod next;
 mod plain;
+#[cfg(test)]
+mod policy_tests;
 mod puts;
-mod room_totals;
 #[cfg(test)]
 mod set_tests;
 #[cfg(test)]

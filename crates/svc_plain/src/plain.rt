@@ -2,13 +2,14 @@ ghost use Rattle.std.specs.Prelude.{◌≡◌, ◌+◌, ◌<◌, ◌≤◌, true
 ghost use Rattle.std.specs.BTreeMap.{insert_entry, is_at};
 ghost use Rattle.std.specs.Map.{lookup, remove_entry};
 ghost use Rattle.std.specs.Option.{option_copied};
-ghost use Rattle.svc_plain.specs.RoomTotals.{HasRoom, IsTotalOf, total_of, totals_and, totals_without};
+ghost use Rattle.set_rules.specs.RoomTotals.{HasRoom, IsTotalOf, total_of, totals_and, totals_without};
 ghost use Rattle.svc_plain.specs.Written.{written};
 ghost use Rattle.var_types.specs.Attributes.{store_of};
 ghost use Rattle.var_types.specs.Exit.{exit_step};
 ghost use Rattle.var_types.specs.Get.{get_found, get_reply};
 ghost use Rattle.var_types.specs.Key.{key_cmp, key_of};
 ghost use Rattle.var_types.specs.Next.{next_reply, next_named, next_behind, next_above};
+ghost use Rattle.var_types.specs.PolicyStep.{policy_step};
 ghost use Rattle.var_types.specs.Reading.{set_key};
 ghost use Rattle.var_types.specs.Room.{room_of};
 ghost use Rattle.var_types.specs.Set.{changed, decision, set_step};
@@ -22,15 +23,15 @@ use crate::gets::{get_stored, shown_at};
 use crate::key_view::KeyView;
 use crate::next::{key_above, next_found};
 use crate::puts::{Write, put};
-use crate::room_totals::RoomTotals;
-use set_rules::decide;
+use policy_table::PolicyTable;
+use set_rules::{RoomTotals, decide};
 use std::alloc::Global;
 use std::collections::BTreeMap;
 use std::marker::Model;
 use std::mem::replace;
 use var_types::{
-    Call, Decision, ExitReply, GetCall, GetReply, Key, NameFault, NextCall, NextReply, Reply,
-    SetCall, SetReply, Store, Variable, check_name, decisions_decide, room_of,
+    Call, Decision, ExitReply, GetCall, GetReply, Key, NameFault, NextCall, NextReply, PolicyCall,
+    PolicyReply, Reply, SetCall, SetReply, Store, Variable, check_name, decisions_decide, room_of,
 };
 
 /// The variable service on one thread, which starts with no variable.
@@ -41,6 +42,7 @@ pub struct Plain {
     /// The key of the present call, so that a look-up takes no memory where an earlier one took as much.
     probe: Key,
     totals: RoomTotals,
+    table: PolicyTable,
     runtime: bool,
     made: u64,
     limit: u64,
@@ -49,15 +51,15 @@ pub struct Plain {
 impl Model for Plain {
     ghost use Rattle.std.specs.Prelude.{true, false, []};
     ghost use Rattle.var_types.specs.State.{State};
-    ghost use Rattle.svc_plain.specs.RoomTotals.{IsTotalOf};
+    ghost use Rattle.set_rules.specs.RoomTotals.{IsTotalOf};
 
     ghost Value = { State };
 
     ghost view = { λ p. record {
       variables = p.variables.entries;
-      policies = [];
-      policy_on = true;
-      locked = false;
+      policies = p.table.policies;
+      policy_on = p.table.policy_on;
+      locked = p.table.locked;
       runtime = p.runtime;
       made = p.made;
       limit = p.limit;
@@ -79,6 +81,7 @@ impl Plain {
                 non_volatile: 0,
                 volatile: 0,
             },
+            table: PolicyTable::new(alloc),
             runtime: false,
             made: 0,
             limit,
@@ -95,6 +98,7 @@ impl Plain {
             Call::Get(get) => Reply::Get(self.get_reply(get)),
             Call::Next(next) => Reply::Next(self.next_reply(next)),
             Call::Set(set) => Reply::Set(self.set_step(set)),
+            Call::Policy(policy) => Reply::Policy(self.policy_step(policy)),
             Call::ExitBoot => Reply::Exit(self.exit_step()),
         }
     }
@@ -193,6 +197,14 @@ impl Plain {
         ExitReply::Ok
     }
 
+    /// A call about the policies.
+    fn policy_step(&mut self, call: &PolicyCall) -> PolicyReply
+        ensures done { lacks_memory (Call.Policy call.now) (Reply.Policy result) ≡ false → (result, self.new) ≡ policy_step self.old call.now }
+        ensures memory { lacks_memory (Call.Policy call.now) (Reply.Policy result) ≡ true → self.new ≡ self.old }
+    {
+        self.table.answer(call, &mut self.made, self.limit)
+    }
+
     /// A set, whose key is made in the memory of the one before.
     fn set_step(&mut self, call: &SetCall) -> SetReply
         ensures done { lacks_memory (Call.Set call.now) (Reply.Set result) ≡ false → (result, self.new) ≡ set_step self.old call.now }
@@ -246,6 +258,8 @@ impl Plain {
             key,
             found,
             rest: totals_without(self.totals, key, found),
+            variables: &self.variables,
+            table: &self.table,
             runtime: self.runtime,
             made: self.made,
             limit: self.limit,

@@ -54,7 +54,7 @@ fn outcome_of(reply: &Reply) -> Outcome {
         Reply::Set(SetReply::Same) => Outcome::Same,
         Reply::Set(SetReply::Refused(reason)) => Outcome::Refused(*reason),
         Reply::Set(SetReply::OutOfMemory) => Outcome::OutOfMemory,
-        Reply::Get(_) | Reply::Next(_) | Reply::Exit(_) => Outcome::OfAnotherKind,
+        _ => Outcome::OfAnotherKind,
     }
 }
 

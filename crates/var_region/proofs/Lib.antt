@@ -15,3 +15,4 @@ pub mod Steps
 pub mod Appends
 pub mod Marked
 pub mod NewRecords
+pub mod Tallied

@@ -8,3 +8,4 @@ pub mod NewRecord
 pub mod Written
 pub mod WritingLaws
 pub mod StateSteps
+pub mod Tallies

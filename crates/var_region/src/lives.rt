@@ -1,4 +1,4 @@
-ghost use Rattle.std.specs.Prelude.{◌≤◌, length};
+ghost use Rattle.std.specs.Prelude.{◌≡◌, ◌≤◌, length};
 ghost use Rattle.std.specs.Iterator.{YieldsFirstBy, item_count};
 ghost use Rattle.var_types.specs.Layout.{longest_region};
 ghost use Rattle.var_region.specs.Found.{seen};
@@ -42,6 +42,19 @@ impl<'a> Model for Lives<'a> {
     ghost view = { λ l. lives_at l.non_volatile l.bytes.now l.at };
 
     ghost invariant = { λ l. length l.bytes.now ≤ longest_region };
+}
+
+impl<'a> Lives<'a> {
+    /// The same walk, from where this one stands.
+    pub fn rest(&self) -> Lives<'a>
+        ensures { result ≡ self.now }
+    {
+        Lives {
+            bytes: self.bytes,
+            at: self.at,
+            non_volatile: self.non_volatile,
+        }
+    }
 }
 
 impl<'a> Iterator for Lives<'a> {

@@ -2,6 +2,7 @@ ghost use Rattle.std.specs.Prelude.{◌≡◌, ◌+◌, ◌≤◌, Some, IfSome,
 ghost use Rattle.std.specs.BTreeMap.{is_at};
 ghost use Rattle.std.specs.Map.{lookup};
 ghost use Rattle.std.specs.Option.{option_map};
+ghost use Rattle.var_types.specs.Census.{count_of};
 ghost use Rattle.var_types.specs.Chosen.{chosen};
 ghost use Rattle.var_types.specs.Key.{key_cmp, key_of};
 ghost use Rattle.var_types.specs.Layout.{longest_region};
@@ -16,10 +17,11 @@ use crate::find::search;
 use crate::found::Found;
 use crate::lives::Lives;
 use crate::tail::{Tail, tail_of};
+use crate::tally::{Tally, tally_of};
 use crate::walk::Walk;
 use crate::wanted::Wanted;
 use std::marker::Model;
-use var_types::Guid;
+use var_types::{Guid, RecordKind};
 
 /// A store's region: its bytes, the offset of its first record, and whether it is the non-volatile store's.
 #[derive(Debug, Drop)]
@@ -97,6 +99,18 @@ impl<'a> Region<'a> {
         ensures limit { result.at ≤ length self.now.bytes + 3 }
     {
         tail_of(self.bytes, self.first)
+    }
+
+    /// How many records of which kind the region has, found in one pass.
+    #[tactic(auto, unfolding(var_types::specs::Census::count_of, var_types::specs::Region::region_records))]
+    pub fn tally(&self) -> Tally
+        ensures records { result.records ≡ length (region_records self.now) }
+        ensures added { result.added ≡ count_of RecordKind.Added self.now }
+        ensures transition { result.transition ≡ count_of RecordKind.InTransition self.now }
+        ensures deleted { result.deleted ≡ count_of RecordKind.Deleted self.now }
+        ensures other { result.other ≡ count_of RecordKind.Other self.now }
+    {
+        tally_of(self.non_volatile, self.bytes, self.first)
     }
 
     /// Whether so many bytes fit behind the records: the tail is clean, and has the room. A size is in bytes, without the gap behind a record.

@@ -11,13 +11,14 @@ use Rattle.var_types.specs.declared.answered.Answered.{Answered}
 use Rattle.var_types.specs.declared.answered.Route.TheVariants.{Plain}
 use Rattle.var_types.specs.declared.call.Call.{Call}
 use Rattle.var_types.specs.declared.reply.Reply.{Reply}
+use Rattle.var_types.specs.DeviceErrors.{IsReplyIn}
 use Rattle.var_types.specs.History.{Entry, IsRightAt, run}
 use Rattle.var_types.specs.Session.{AreAllRight, AreChangesOf, AreOrderedFrom, ArePlain, AreRight, IsAnsweredAfter, IsLegalSession, changes_from, entries_of, entry_of, place_behind}
 use Rattle.var_types.specs.State.{State}
-use Rattle.var_types.specs.Step.{is_change, step}
+use Rattle.var_types.specs.Step.{is_change}
 
 -- a change of a history stands at its place in a longer one
-slice_get-longer : (history more : List Entry) (place : ℕ) (entry : Entry) → slice_get history place ≡ Some entry
+pub slice_get-longer : (history more : List Entry) (place : ℕ) (entry : Entry) → slice_get history place ≡ Some entry
     → slice_get (history ++ more) place ≡ Some entry
 slice_get-longer history more place entry h =
     let within : place < length history = slice_get_within history place entry h in
@@ -27,17 +28,18 @@ slice_get-longer history more place entry h =
 
 module _ (state : State) (history more : List Entry) where
   -- a reply that is right at a place stays right in a longer history
-  IsRightAt-longer : (place processor index : ℕ) (call : Call) (reply : Reply) → IsRightAt state history place processor index call reply
+  pub IsRightAt-longer : (place processor index : ℕ) (call : Call) (reply : Reply) → IsRightAt state history place processor index call reply
       → IsRightAt state (history ++ more) place processor index call reply
   IsRightAt-longer place processor index call reply right = record {
     in_history = omega (arith, right.in_history, length-append history more);
-    same_reply = λ had.
-        right.same_reply had ∙ ap (λ es. (step (run state es) call).0) (sym (take-append-le place history more right.in_history));
+    reply_is =
+        subst (λ (es : List Entry). IsReplyIn (run state es) call reply) (sym (take-append-le place history more right.in_history))
+        right.reply_is;
     one_entry = λ change. slice_get-longer history more place _ (right.one_entry change);
   }
 
   -- so do a processor's replies
-  AreRight-longer : (processor index : ℕ) (answered : List Answered) → AreRight state history processor index answered
+  pub AreRight-longer : (processor index : ℕ) (answered : List Answered) → AreRight state history processor index answered
       → AreRight state (history ++ more) processor index answered
   AreRight-longer processor index [] right = tt
   AreRight-longer processor index (a ∷ rest) right =
@@ -51,7 +53,7 @@ module _ (state : State) (history more : List Entry) where
       (AreRight-longer processor 0 answered right.0, AreAllRight-longer (processor + 1) rest right.1)
 
 -- a processor's replies are right with one more that is
-AreRight-more : (state : State) (history : List Entry) (processor index n : ℕ) (answered : List Answered) (a : Answered)
+pub AreRight-more : (state : State) (history : List Entry) (processor index n : ℕ) (answered : List Answered) (a : Answered)
     → n ≡ index + length answered → AreRight state history processor index answered → IsRightAt state history a.place processor n a.call a.reply
     → AreRight state history processor index (answered ++ a ∷ [])
 AreRight-more state history processor index n [] a e right one =
@@ -80,7 +82,7 @@ AreOrderedFrom-more state history processor index least (x ∷ rest) a place low
 )
 
 -- the changes of a processor's calls and of one more
-changes_from-more : (processor index n : ℕ) (answered : List Answered) (a : Answered) → n ≡ index + length answered
+pub changes_from-more : (processor index n : ℕ) (answered : List Answered) (a : Answered) → n ≡ index + length answered
     → changes_from processor index answered ++ changes_from processor n (a ∷ []) ≡ changes_from processor index (answered ++ a ∷ [])
 changes_from-more processor index n [] a e = ap (λ n. changes_from processor n (a ∷ [])) (omega (arith, e))
 changes_from-more processor index n (x ∷ rest) a e =

@@ -7,6 +7,9 @@ pub mod SetChanges
 pub mod SetEffects
 pub mod Bests
 pub mod Steps
+pub mod PolicyReplies
+pub mod PolicyTables
+pub mod DeviceErrors
 pub mod ReplyKinds
 pub mod Sessions
 pub mod LegalSessions
@@ -32,3 +35,4 @@ pub mod Meaning
 pub mod Owned
 pub mod WorkAreas
 pub mod Parts
+pub mod Censuses

@@ -1,9 +1,8 @@
 -- The parts of an image, and what a change of one of them leaves.
-use Rattle.std.proofs.Common.{◌≡◌, inl, ℕ, ◌+◌, ◌-◌, ◌≤◌, Bool, true, false, List, ◌++◌, length, take, drop, refl, sym, ap, ◌∙◌, arith, append_assoc, length-drop}
+use Rattle.std.proofs.Common.{◌≡◌, ℕ, ◌+◌, ◌-◌, ◌≤◌, Bool, true, false, List, ◌++◌, length, take, drop, refl, sym, ap, ◌∙◌, arith, length-drop}
 use Rattle.std.proofs.lemmas.List.{drop-drop, drop-take, drop_at, length-take-le, take-append-drop, take-take, take_at}
-use Rattle.var_types.specs.declared.work_state.WorkState.{WorkState}
 use Rattle.var_types.specs.declared.work_state.WorkState.TheVariants.{Clean, Pending, Unclean}
-use Rattle.var_types.specs.Kept.{IsContentKept, IsContentOr, IsForeign, IsSound, chosen_part, content, spare, spare_volume, volume, work_area}
+use Rattle.var_types.specs.Kept.{IsContentKept, IsSound, chosen_part, content, spare, spare_volume, volume, work_area}
 use Rattle.var_types.specs.Placed.{IsOutsideKept}
 use Rattle.var_types.specs.WorkArea.{is_blank, work_state}
 

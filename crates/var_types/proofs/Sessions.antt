@@ -5,9 +5,11 @@ use Rattle.std.proofs.lemmas.List.Elements.{All-cons, All-nil}
 use Rattle.std.proofs.lemmas.Option.{slice_get-get_or}
 use Rattle.std.proofs.Math.Seq.{get_or-append_seam, take-append_seam}
 use Rattle.std.specs.Prelude.{ℕ, All, if◌then◌else◌, slice_get, take, get_or, Some}
+use Rattle.var_types.proofs.DeviceErrors.{IsReplyIn-stepped}
 use Rattle.var_types.proofs.Steps.{IsStep-step, memory_from_change}
 use Rattle.var_types.specs.declared.answered.Answered.{Answered}
 use Rattle.var_types.specs.declared.answered.Route.TheVariants.{Plain}
+use Rattle.var_types.specs.DeviceErrors.{IsReplyIn}
 use Rattle.var_types.specs.History.{Entry, IsRightAt, run}
 use Rattle.var_types.specs.Laws.{changes_of, state_left}
 use Rattle.var_types.specs.Session.{AreOrderedFrom, ArePlain, AreRight, AreStepped, IsAnsweredAfter, IsLegalSession, changes_from, entries_of, entry_of, history_of, place_behind, state_after}
@@ -81,7 +83,7 @@ AreOrderedFrom-stepped least state (a ∷ rest) low stepped = (
 )
 
 -- one history after another
-run-append : (state : State) (xs ys : List Entry) → run state (xs ++ ys) ≡ run (run state xs) ys
+pub run-append : (state : State) (xs ys : List Entry) → run state (xs ++ ys) ≡ run (run state xs) ys
 run-append state [] ys = refl
 run-append state (x ∷ xs) ys = run-append (step state x.call).1 xs ys
 
@@ -90,7 +92,7 @@ take-seam : (xs ys : List Entry) (n : ℕ) → n ≡ length xs → take n (xs ++
 take-seam xs ys n e = ap (λ k. take k (xs ++ ys)) e ∙ take-append_seam xs ys
 
 -- the change behind a history
-slice_get-seam : (xs ys : List Entry) (y : Entry) (n : ℕ) → n ≡ length xs → slice_get (xs ++ y ∷ ys) n ≡ Some y
+pub slice_get-seam : (xs ys : List Entry) (y : Entry) (n : ℕ) → n ≡ length xs → slice_get (xs ++ y ∷ ys) n ≡ Some y
 slice_get-seam xs ys y n e =
     let within : n < length (xs ++ y ∷ ys) = omega (arith, length-append xs (y ∷ ys)) in
     slice_get-get_or (xs ++ y ∷ ys) n y within ∙ ap Some (ap (λ k. get_or (xs ++ y ∷ ys) k y) e ∙ get_or-append_seam xs y ys y)
@@ -101,7 +103,8 @@ pub IsRightAt-answered : (start : State) (done es : List Entry) (processor index
     → IsRightAt start (done ++ rest) a.place processor index a.call a.reply
 IsRightAt-answered start done es processor index a rest answered first = record {
   in_history = omega (arith, answered.place, length-append done rest);
-  same_reply = λ had. answered.reply had ∙ ap (λ es. (step (run start es) a.call).0) (sym (take-seam done rest a.place answered.place));
+  reply_is =
+      subst (λ (es : List Entry). IsReplyIn (run start es) a.call a.reply) (sym (take-seam done rest a.place answered.place)) answered.reply;
   one_entry = λ change.
       ap (λ (es : List Entry). slice_get (done ++ es) a.place) (first change)
       ∙ slice_get-seam done es (entry_of processor index a) a.place answered.place;
@@ -135,7 +138,7 @@ module _ (start state : State) (done : List Entry) (so_far : IsSoFar start state
   IsAnsweredAfter-stepped = record {
     place = place ∙ so_far.counts;
     route = route;
-    reply = λ had. right had ∙ ap (λ (s : State). (step s a.call).0) (sym so_far.leads);
+    reply = subst (λ (s : State). IsReplyIn s a.call a.reply) (sym so_far.leads) (IsReplyIn-stepped state a.call a.reply right);
   }
 
   -- the calls after this one are right, a change or not

@@ -1,16 +1,18 @@
 -- Every state that changes lead to from a sound one is sound.
-use Rattle.std.proofs.Common.{◌≡◌, ◌+◌, Bool, true, false, List, [], ◌∷◌, refl}
+use Rattle.std.proofs.Common.{◌≡◌, ◌+◌, Bool, true, false, List, [], ◌∷◌, ◌++◌, refl, subst, sym}
 use Rattle.std.proofs.lemmas.List.Elements.{All-nil}
 use Rattle.std.proofs.lemmas.Map.Views.{All-keys-insert_entry, All-map-remove_entry}
 use Rattle.std.specs.BTreeMap.{is_at}
 use Rattle.std.specs.List.Sorted.{IsStrictlySortedBy}
-use Rattle.std.specs.Prelude.{ℕ, drop, if◌then◌else◌, nat_le, Result, Ok, Err}
+use Rattle.std.specs.Map.{keys_of}
+use Rattle.std.specs.Prelude.{ℕ, All, drop, if◌then◌else◌, nat_le, Result, Ok, Err}
 use Rattle.var_types.proofs.Keys.{key_cmp_total}
 use Rattle.var_types.proofs.Orders.{sorted-insert_entry, sorted-remove_entry}
 use Rattle.var_types.specs.Exit.{exit_step}
 use Rattle.var_types.specs.History.{Entry, run}
 use Rattle.var_types.specs.Key.{key_cmp}
 use Rattle.var_types.specs.Name.{name_check}
+use Rattle.var_types.specs.PolicyStep.{change_outcome, counted, may_disable, may_lock, policy_step, register_outcome, registered}
 use Rattle.var_types.specs.Reading.{Reading, reading_of, set_key}
 use Rattle.var_types.specs.Set.{cases, change_of, decided, decision, first_of, set_step, variable_by}
 use Rattle.var_types.specs.SetCases.{name_case}
@@ -18,13 +20,22 @@ use Rattle.var_types.specs.State.{State, start, stored_at}
 use Rattle.var_types.specs.Step.{step}
 use Rattle.var_types.specs.Walk.{IsSound, IsWellFormed}
 use Rattle.var_types.specs.declared.call.Call.{Call}
-use Rattle.var_types.specs.declared.call.Call.TheVariants.{ExitBoot, Get, Next, Set}
+use Rattle.var_types.specs.declared.call.Call.TheVariants.{ExitBoot, Get, Next, Policy, Set}
 use Rattle.var_types.specs.declared.call.SetCall.{SetCall}
 use Rattle.var_types.specs.declared.decision.Decision.{Decision}
 use Rattle.var_types.specs.declared.decision.Decision.TheVariants.{Refuse, Same, Remove, Write}
 use Rattle.var_types.specs.declared.name.NameFault.{NameFault}
+use Rattle.var_types.specs.declared.key.Key.{Key}
+use Rattle.var_types.specs.declared.policy.Policy.{Policy as RegisteredPolicy}
+use Rattle.var_types.specs.declared.policy_call.PolicyCall.{PolicyCall}
+use Rattle.var_types.specs.declared.policy_call.PolicyCall.TheVariants as calls
+use Rattle.var_types.specs.declared.policy_reason.PolicyReason.{PolicyReason}
+use Rattle.var_types.specs.declared.policy_reason.PolicyReason.TheVariants.{HistoryFull}
+use Rattle.var_types.specs.declared.policy_reply.PolicyReply.{PolicyReply}
+use Rattle.var_types.specs.declared.policy_reply.PolicyReply.TheVariants as policy
 use Rattle.var_types.specs.declared.reply.ExitReply.{ExitReply}
 use Rattle.var_types.specs.declared.reply.ExitReply.TheVariants as exit
+use Rattle.var_types.specs.declared.variable.Variable.{Variable}
 
 -- a start with no variable is sound
 pub IsSound-start : (limit : ℕ) → IsSound (start [] limit)
@@ -70,12 +81,49 @@ module _ (state : State) (sound : IsSound state) where
   IsSound-ended false true = sound
   IsSound-ended false false = record { ordered = sound.ordered; named = sound.named }
 
+  -- a state with the same variables is sound
+  IsSound-same : (next : State) → next.variables ≡ state.variables → IsSound next
+  IsSound-same next same = record {
+    ordered = subst (λ (vs : List (Key × Variable)). IsStrictlySortedBy key_cmp (keys_of vs)) (sym same) sound.ordered;
+    named = subst (λ (vs : List (Key × Variable)). All (λ key. IsWellFormed key.name) (keys_of vs)) (sym same) sound.named;
+  }
+
+  -- a change of the policies that is counted, by whether the history is full
+  IsSound-counted : (next : State) → next.variables ≡ state.variables → IsSound (counted state next).1
+  IsSound-counted next same = by (nat_le state.limit state.made)
+    where
+      by : (full : Bool)
+          → IsSound
+          (if◌then◌else◌ {A = PolicyReply × State} full (policy.Refused (HistoryFull state.made), state)
+          (policy.Ok, record next { made = state.made + 1 })).1
+      by true = sound
+      by false = IsSound-same (record next { made = state.made + 1 }) same
+
+  IsSound-registered : (outcome : Result RegisteredPolicy PolicyReason) → IsSound (register_outcome state outcome).1
+  IsSound-registered (Err reason) = sound
+  IsSound-registered (Ok p) = IsSound-counted (record state { policies = state.policies ++ p ∷ [] }) refl
+
+  IsSound-changed : (next : State) → next.variables ≡ state.variables → (may : Result (Unit {0}) PolicyReason)
+      → IsSound (change_outcome state next may).1
+  IsSound-changed next same (Err reason) = sound
+  IsSound-changed next same (Ok u) = IsSound-counted next same
+
+  -- a call about the policies leaves the variables
+  IsSound-policy : (call : PolicyCall) → IsSound (policy_step state call).1
+  unfolding policy_step
+  IsSound-policy (calls.Register bytes) = IsSound-registered (registered state.policies state.locked bytes)
+  IsSound-policy calls.Lock = IsSound-changed (record state { locked = true }) refl (may_lock state.locked)
+  IsSound-policy calls.Disable = IsSound-changed (record state { policy_on = false }) refl (may_disable state.policy_on state.locked)
+  IsSound-policy calls.Enabled = sound
+  IsSound-policy (calls.At place) = sound
+
   -- any call leaves a sound state
   pub IsSound-step : (call : Call) → IsSound (step state call).1
   unfolding step exit_step
   IsSound-step (Get call) = sound
   IsSound-step (Next call) = sound
   IsSound-step (Set call) = IsSound-set call
+  IsSound-step (Policy call) = IsSound-policy call
   IsSound-step ExitBoot = IsSound-ended state.runtime (nat_le state.limit state.made)
 
 -- changes leave a sound state

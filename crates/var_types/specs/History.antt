@@ -1,8 +1,9 @@
-use Rattle.std.specs.Prelude.{◌≡◌, ℕ, ◌≤◌, List, [], ◌∷◌, true, false, take, length, slice_get, Some}
+use Rattle.std.specs.Prelude.{◌≡◌, ℕ, ◌≤◌, List, [], ◌∷◌, true, take, length, slice_get, Some}
 use Rattle.var_types.specs.declared.call.Call.{Call}
 use Rattle.var_types.specs.declared.reply.Reply.{Reply}
+use Rattle.var_types.specs.DeviceErrors.{IsReplyIn}
 use Rattle.var_types.specs.State.{State}
-use Rattle.var_types.specs.Step.{step, lacks_memory, is_change}
+use Rattle.var_types.specs.Step.{step, is_change}
 
 -- a change of the history: its number, and the processor and the index of the call that made it (this project's own)
 pub record Entry : Type 0 where
@@ -21,9 +22,10 @@ abbrev pub after : State → List Entry → ℕ → State
 after state history k = run state (take k history)
 
 -- the reply to a processor's call is right at a place of a history: it is the one-thread service's there, and a change is the history's
--- entry there; that the call was out of memory is right anywhere, as no change (this project's own)
+-- entry there; that the call was out of memory is right anywhere, and that the flash failed where a set would change a non-volatile variable,
+-- both as no change (this project's own)
 pub record IsRightAt (state : State) (history : List Entry) (place processor index : ℕ) (call : Call) (reply : Reply) : Type 0 where
   pub in_history : place ≤ length history
-  pub same_reply : lacks_memory call reply ≡ false → reply ≡ (step (after state history place) call).0
+  pub reply_is : IsReplyIn (after state history place) call reply
   pub one_entry : is_change reply ≡ true
       → slice_get history place ≡ Some (record { number = place; processor = processor; index = index; call = call })

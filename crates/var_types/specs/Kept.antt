@@ -1,5 +1,5 @@
 -- What an image of the flash keeps while there is no power.
-use Rattle.std.specs.Prelude.{◌≡◌, ◌⊎◌, ℕ, Bool, true, false, List, length, take, drop}
+use Rattle.std.specs.Prelude.{◌≡◌, ◌⊎◌, ℕ, Bool, true, false, List, take, drop}
 use Rattle.var_types.specs.declared.key.Key.{Key}
 use Rattle.var_types.specs.declared.variable.Variable.{Variable}
 use Rattle.var_types.specs.declared.work_state.WorkState.{WorkState}

@@ -34,6 +34,12 @@ RightRepliesFit =
     (state : State) (history : List Entry) (place processor index : ℕ) (call : Call) (reply : Reply)
     → IsRightAt state history place processor index call reply → IsOfKind call reply
 
+-- a reply that is right at a place of a history is right there in a longer one
+abbrev pub RightRepliesStayRight : Type 0
+RightRepliesStayRight =
+    (state : State) (history more : List Entry) (place processor index : ℕ) (call : Call) (reply : Reply)
+    → IsRightAt state history place processor index call reply → IsRightAt state (history ++ more) place processor index call reply
+
 -- the replies of calls stepped through the one-thread service are of their calls' kinds
 abbrev pub SteppedRepliesFit : Type 0
 SteppedRepliesFit =

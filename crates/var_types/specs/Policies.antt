@@ -97,17 +97,32 @@ lacks_must policy question = not question.deletes && not (bit_and question.attri
 abbrev pub has_cant : Policy → Question → Bool
 has_cant policy question = not question.deletes && has question.attributes policy.cant
 
--- whether a variable has exactly one byte, and that is this one
+-- the byte of bytes of which there is exactly one
+abbrev pub only_byte : List ℕ → Option ℕ
+only_byte [] = None
+only_byte (byte ∷ []) = Some byte
+only_byte (byte ∷ next ∷ rest) = None
+
+-- the byte of what is stored, where it has exactly one
+abbrev pub one_byte : Option Variable → Option ℕ
+one_byte None = None
+one_byte (Some variable) = only_byte variable.bytes
+
+-- whether a byte is there and is this one
+abbrev pub is_byte : ℕ → Option ℕ → Bool
+is_byte value None = false
+is_byte value (Some byte) = byte == value
+
+-- whether a variable has exactly one byte, and that is this one (EDK II, ValidateSetVariable)
 abbrev pub has_value : Option Variable → ℕ → Bool
-has_value None value = false
-has_value (Some variable) value = pointwise ◌==◌ variable.bytes (value ∷ [])
+has_value stored value = is_byte value (one_byte stored)
 
 -- the rule by which a policy's lock denies (EDK II, VARIABLE_POLICY_TYPE_LOCK_NOW, _LOCK_ON_CREATE and _LOCK_ON_VAR_STATE)
 abbrev pub lock_rule : State → Bool → Lock → Option Rule
 lock_rule state stored NoLock = None
 lock_rule state stored Now = Some LockNow
 lock_rule state stored OnCreate = if stored then Some LockOnCreate else None
-lock_rule state stored (OnState namespace name value) = if has_value (stored_at state (key_of namespace name)) value then Some LockOnState else None
+lock_rule state stored (OnState key value) = if has_value (stored_at state key) value then Some LockOnState else None
 
 -- the first rule of a policy that denies: its sizes, its attributes, then its lock; a deletion is held to the lock alone (EDK II,
 -- ValidateSetVariable; the order is this project's own)

@@ -2,6 +2,7 @@ use Rattle.std.specs.Prelude.{◌≡◌, ℕ, ◌+◌, ◌<◌, ◌≤◌, ◌==
 use Rattle.var_types.specs.declared.answered.Answered.{Answered}
 use Rattle.var_types.specs.declared.answered.Route.TheVariants.{Plain}
 use Rattle.var_types.specs.declared.call.Call.{Call}
+use Rattle.var_types.specs.DeviceErrors.{IsReplyIn}
 use Rattle.var_types.specs.History.{Entry, IsRightAt, run}
 use Rattle.var_types.specs.State.{State}
 use Rattle.var_types.specs.Step.{step, lacks_memory, is_change}
@@ -41,11 +42,11 @@ AreStepped state (a ∷ rest) =
     (a.place ≡ state.made) × (a.route ≡ Plain) × (lacks_memory a.call a.reply ≡ false → a.reply ≡ (step state a.call).0)
     × AreStepped (state_after state a) rest
 
--- a call was answered by the one-thread service as it stands after a whole history (this project's own)
+-- a call was answered as the service stands after a whole history (this project's own)
 pub record IsAnsweredAfter (state : State) (history : List Entry) (a : Answered) : Type 0 where
   pub place : a.place ≡ length history
   pub route : a.route ≡ Plain
-  pub reply : lacks_memory a.call a.reply ≡ false → a.reply ≡ (step (run state history) a.call).0
+  pub reply : IsReplyIn (run state history) a.call a.reply
 
 -- each of a processor's answered calls is right at its place of a history; the first of them has this index
 abbrev pub AreRight : State → List Entry → ℕ → ℕ → List Answered → Type 0

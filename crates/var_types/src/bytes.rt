@@ -1,5 +1,6 @@
-ghost use Rattle.std.specs.Prelude.{◌≡◌, ◌==◌, [], ◌++◌, IfOk, OnOk, OnErr};
+ghost use Rattle.std.specs.Prelude.{◌≡◌, ◌==◌, [], ◌++◌, length, take, IfOk, OnOk, OnErr};
 ghost use Rattle.std.proofs.Common.{rules};
+ghost use Rattle.hex.specs.Hex.{encode_lower};
 ghost use Rattle.std.specs.Cmp.Rules.{comparing};
 ghost use Rattle.var_types.specs.Values.{AreBytes};
 ghost use lib.Pointwise.{pointwise};
@@ -53,6 +54,31 @@ impl Bytes {
         ensures err { OnErr result (self.new ≡ self.old) }
     {
         self.items.extend_from_slice(bytes)?;
+        Ok(())
+    }
+
+    /// Becomes other bytes, as many as it has; takes no memory.
+    pub fn overwrite(&mut self, bytes: &[u8])
+        requires { length bytes.now ≡ length self.old }
+        ensures { self.new ≡ bytes.now }
+    {
+        self.items.copy_from_slice(bytes);
+    }
+
+    /// Keeps the first bytes, at most as many as there are.
+    pub fn truncate(&mut self, length: usize)
+        ensures { self.new ≡ take length self.old }
+    {
+        self.items.truncate(length);
+    }
+
+    /// Appends the lower-case hexadecimal digits of bytes; where it is out of memory, the list stays as it was.
+    pub fn append_hex(&mut self, bytes: &[u8]) -> Result<(), OutOfMemory>
+        ensures ok { OnOk result (self.new ≡ self.old ++ encode_lower bytes.now) }
+        ensures err { OnErr result (self.new ≡ self.old) }
+    {
+        let digits = hex::encode(*self.items.allocator(), bytes)?;
+        self.items.extend_from_slice(digits.as_bytes())?;
         Ok(())
     }
 

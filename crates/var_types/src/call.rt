@@ -1,4 +1,4 @@
-use crate::{Bytes, Guid, Units, Verdict};
+use crate::{Bytes, Guid, PolicyCall, Units, Verdict};
 
 /// A call of GetVariable (UEFI 2.10, 8.2.1).
 #[derive(Debug, Drop)]
@@ -35,6 +35,7 @@ pub enum Call {
     Get(GetCall),
     Next(NextCall),
     Set(SetCall),
+    Policy(PolicyCall),
     /// The end of the boot phase, which hides what has no runtime access (UEFI 2.10, 7.4).
     ExitBoot,
 }

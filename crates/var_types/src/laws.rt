@@ -1,8 +1,9 @@
 //! Laws of the definitions: each is the contract of a function that does nothing.
 ghost use Rattle.std.specs.Prelude.{◌≡◌, ℕ, []};
+ghost use Rattle.var_types.specs.Census.{KindsAddUp};
 ghost use Rattle.var_types.specs.declared.key.Key.{Key};
 ghost use Rattle.var_types.specs.Key.{key_cmp};
-ghost use Rattle.var_types.specs.Laws.{RightRepliesFit, SteppedRepliesFit, SteppedSessionsAreLegal, LegalSessionsGrow, ChangesLeaveTheState};
+ghost use Rattle.var_types.specs.Laws.{RightRepliesFit, RightRepliesStayRight, SteppedRepliesFit, SteppedSessionsAreLegal, LegalSessionsGrow, ChangesLeaveTheState};
 ghost use Rattle.var_types.specs.Laws.{SameChangesLeaveTheSameState, GuidsReadBack};
 ghost use Rattle.var_types.specs.Laws.{BytesHaveRecords, BytesHaveOneList, MapsStandInKeyOrder, MapsHoldWhatCounts, WhatCountsDecidesTheMap};
 ghost use Rattle.var_types.specs.ImageLaws.{BlankSparesHoldNothing, CleanAreasAreClean, GapsNeverMatter, NoOthersAreClean, NoOthersArePending, PendingAreasArePending};
@@ -15,6 +16,11 @@ ghost use Rattle.var_types.specs.Walk.{IsSound, ChangesKeepSoundness, WalksAnswe
 pub fn replies_are_of_their_calls_kind()
     ensures right { RightRepliesFit }
     ensures stepped { SteppedRepliesFit }
+{}
+
+/// A reply that is right at a place of a history stays right there while the history grows.
+pub fn right_replies_stay_right()
+    ensures { RightRepliesStayRight }
 {}
 
 /// A session that the one-thread service stepped is a legal one, of one processor.
@@ -100,4 +106,9 @@ pub fn work_areas_are_known_by_their_state()
 pub fn contents_depend_on_their_parts()
     ensures gap { GapsNeverMatter }
     ensures blank { BlankSparesHoldNothing }
+{}
+
+/// The four kinds of a region's records add up to its records.
+pub fn kinds_of_records_add_up()
+    ensures { KindsAddUp }
 {}

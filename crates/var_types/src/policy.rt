@@ -1,16 +1,15 @@
-use crate::{Guid, Units};
+use crate::{Guid, Key, Units};
 
 /// When a policy locks the variables that it covers (EDK II, VariablePolicyLib).
 #[derive(Debug, Drop)]
 pub enum Lock {
     NoLock,
+    /// At once.
     Now,
+    /// Each one as soon as it is there.
     OnCreate,
-    OnState {
-        namespace: Guid,
-        name: Units,
-        value: u8,
-    },
+    /// Once the variable of a key has one byte, and that is the value.
+    OnState { key: Key, value: u8 },
 }
 
 /// What a registered policy asks of the variables that it covers (EDK II, VariablePolicyLib); sizes are in bytes.

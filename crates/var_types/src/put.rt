@@ -1,4 +1,5 @@
 ghost use Rattle.std.specs.Prelude.{ℕ, List, [], ◌++◌};
+ghost use Rattle.hex.specs.Hex.{encode_lower};
 
 /// What texts are put to, one behind the other. It remembers a failure, and from then on nothing is put.
 pub trait Put {
@@ -8,6 +9,10 @@ pub trait Put {
     /// Puts a text behind those that were put before.
     fn put(&mut self, bytes: &[u8])
         ensures { Puts self.old self.new bytes.now };
+
+    /// Puts the lower-case hexadecimal digits of bytes.
+    fn put_hex(&mut self, bytes: &[u8])
+        ensures { Puts self.old self.new (encode_lower bytes.now) };
 
     /// Where no text is put, nothing changes.
     ghost none: { (a : Self) → Puts a a [] };

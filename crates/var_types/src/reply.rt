@@ -1,6 +1,6 @@
 ghost use Rattle.std.specs.Prelude.{◌≡◌};
 
-use crate::{Bytes, Key, SetReason};
+use crate::{Bytes, Key, PolicyReply, SetReason};
 
 /// What GetVariable answers.
 #[derive(Debug, Drop)]
@@ -33,6 +33,8 @@ pub enum SetReply {
     /// The variable is as the call would make it, so nothing was changed.
     Same,
     Refused(SetReason),
+    /// A step of the flash failed; what callers see is as it was.
+    Device,
     OutOfMemory,
 }
 
@@ -53,6 +55,7 @@ pub enum Reply {
     Get(GetReply),
     Next(NextReply),
     Set(SetReply),
+    Policy(PolicyReply),
     Exit(ExitReply),
 }
 
@@ -64,7 +67,9 @@ impl Reply {
         ensures { result ≡ is_change self.now }
     {
         match self {
-            Reply::Set(SetReply::Ok) | Reply::Exit(ExitReply::Ok) => true,
+            Reply::Set(SetReply::Ok)
+            | Reply::Policy(PolicyReply::Ok)
+            | Reply::Exit(ExitReply::Ok) => true,
             _ => false,
         }
     }

@@ -1,14 +1,10 @@
 //! The texts of values, as scripts and reports have them.
-ghost use Rattle.std.specs.Prelude.{◌≡◌, ◌*◌, ◌≤◌, length, decimal};
-ghost use Rattle.hex.specs.Hex.{encode_lower};
+ghost use Rattle.std.specs.Prelude.{◌≡◌, decimal};
 ghost use Rattle.std.specs.List.{flat_map};
 ghost use Rattle.var_types.specs.Texts.{attributes_text, bytes_text, escaped_text, is_plain, name_text, unit_text};
 
 use crate::Put;
 use itoa::Buffer;
-
-/// How many bytes are made digits at a time, in a buffer on the stack.
-const PIECE: usize = 32;
 
 /// The unit `-`, which alone would be read as no name.
 const DASH: u16 = 0x2d;
@@ -32,27 +28,6 @@ pub fn write_attributes<P: Put>(n: u32, out: &mut P)
     out.put(&[b'0', b'x', a, b, c, d, e, f, g, h]);
 }
 
-fn write_piece<P: Put>(bytes: &[u8], out: &mut P)
-    requires { length bytes.now ≤ 32 }
-    ensures { P.Puts out.old out.new (encode_lower bytes.now) }
-{
-    let mut room = [0u8; 2 * PIECE];
-    let digits = &mut room[..2 * bytes.len()];
-    hex::encode_to_slice(bytes, digits).unwrap();
-    out.put(digits);
-}
-
-fn write_pieces<P: Put>(bytes: &[u8], out: &mut P)
-    ensures { P.Puts out.old out.new (encode_lower bytes.now) }
-{
-    let mut rest = bytes;
-    'pieces: while !rest.is_empty() {
-        let (piece, behind) = rest.split_at(rest.len().min(PIECE));
-        write_piece(piece, out);
-        rest = behind;
-    }
-}
-
 /// Puts bytes in lower-case hexadecimal digits, or `-` for none.
 #[tactic(auto, unfolding(crate::specs::Texts::bytes_text))]
 pub fn write_bytes<P: Put>(bytes: &[u8], out: &mut P)
@@ -61,7 +36,7 @@ pub fn write_bytes<P: Put>(bytes: &[u8], out: &mut P)
     if bytes.is_empty() {
         return out.put(b"-");
     }
-    write_pieces(bytes, out);
+    out.put_hex(bytes);
 }
 
 #[tactic(auto, unfolding(crate::specs::Texts::escaped_text))]

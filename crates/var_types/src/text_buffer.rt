@@ -55,6 +55,14 @@ impl Put for TextBuffer {
         self.lacks = self.bytes.append(bytes).is_err();
     }
 
+    #[tactic(auto, unfolding(crate::specs::Put::PutsText))]
+    fn put_hex(&mut self, bytes: &[u8]) {
+        if self.lacks {
+            return;
+        }
+        self.lacks = self.bytes.append_hex(bytes).is_err();
+    }
+
     ghost none = { PutsText-none };
 
     ghost joined = { PutsText-joined };

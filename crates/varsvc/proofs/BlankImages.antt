@@ -1,11 +1,13 @@
 -- A blank image keeps no variable: its volume is its headers, and erased behind them.
-use Rattle.std.proofs.Common.{◌≡◌, ℕ, ◌+◌, ◌-◌, ◌≤◌, List, [], ◌++◌, length, take, drop, true, replicate, sym, ap, ◌∙◌, subst, arith, lit≤, length-append}
+use Rattle.std.proofs.Common.{◌≡◌, ℕ, ◌+◌, ◌-◌, ◌≤◌, List, [], ◌++◌, length, take, drop, true, replicate, refl, sym, ap, ◌∙◌, subst, arith, lit≤, length-append}
 use Rattle.std.proofs.lemmas.List.{drop-drop, drop-replicate, drop_at, length-replicate, take-replicate}
 use Rattle.std.proofs.Math.Seq.{drop-append_seam, take-append-add}
 use Rattle.flash_dev.proofs.Blanks.{length-blank_headers}
 use Rattle.flash_dev.specs.Blank.{blank_headers, blank_image}
 use Rattle.var_region.proofs.Erased.{IsEmptyRegion-erased}
-use Rattle.var_region.specs.Laws.{AreErasedFrom}
+use Rattle.var_region.specs.Laws.{AreErasedFrom, IsEmptyRegion}
+use Rattle.var_types.specs.Census.{census_of, count_of}
+use Rattle.varsvc.specs.Images.{nothing}
 use Rattle.var_types.specs.Kept.{content, content_region, kept, spare, volume}
 use Rattle.var_types.specs.WorkArea.{is_blank}
 use Rattle.var_types.proofs.Parts.{blank_content}
@@ -44,10 +46,18 @@ volume_is =
 content_is : content blank_image ≡ blank_headers ++ replicate 57244 255
 content_is = blank_content blank_image spare_is ∙ volume_is
 
+-- its region has no records
+region_is_empty : IsEmptyRegion (content_region blank_image)
+region_is_empty =
+    let behind = subst (λ at. AreErasedFrom at (blank_headers ++ replicate 57244 255)) length-blank_headers (erased_behind blank_headers 57244) in
+    IsEmptyRegion-erased (content_region blank_image) (subst (AreErasedFrom 100) (sym content_is) behind)
+
 -- the blank image keeps no variable
 pub kept-blank_image : kept blank_image ≡ []
 unfolding kept
-kept-blank_image =
-    let behind = subst (λ at. AreErasedFrom at (blank_headers ++ replicate 57244 255)) length-blank_headers (erased_behind blank_headers 57244) in
-    let erased = subst (AreErasedFrom 100) (sym content_is) behind in
-    (IsEmptyRegion-erased (content_region blank_image) erased).no_variables
+kept-blank_image = region_is_empty.no_variables
+
+-- and its census is that of nothing
+pub census-blank_image : census_of (content_region blank_image) ≡ nothing
+unfolding census_of count_of
+census-blank_image = rw (region_is_empty.no_records, region_is_empty.no_variables, region_is_empty.clean) refl

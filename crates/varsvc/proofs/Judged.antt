@@ -2,10 +2,11 @@
 use Rattle.std.proofs.Common.{◌≡◌, ◌≢◌, ◌⊎◌, ℕ, Bool, false, List, Option, Some, None, Result, Ok, Err, IsOk, IsErr, inl, inr, ⊎_elim, subst, sym, true≢false}
 use Rattle.std.proofs.lemmas.Bool.{cases_eq}
 use Rattle.ftw_mount.specs.Mount.{content_geometry}
+use Rattle.varsvc.specs.declared.inspection.Inspection.{Inspection}
 use Rattle.varsvc.specs.declared.order.Order.TheVariants as order
 use Rattle.varsvc.specs.declared.usage.UsageFault.{UsageFault}
-use Rattle.varsvc.specs.Images.{IsImage, IsNoImage, Lists, RefusesList}
-use Rattle.varsvc.specs.Outcome.{CallsAreJudged, Counts, IsCalm, Prints, Row, format_row, list_row, run_row, usage_row}
+use Rattle.varsvc.specs.Images.{Inspects, IsImage, IsNoImage, RefusesList}
+use Rattle.varsvc.specs.Outcome.{CallsAreJudged, Counts, IsCalm, Prints, Row, format_row, inspection_row, run_row, usage_row}
 use Rattle.varsvc.specs.Runs.{IsNoScript, IsScript, RefusesScript, Reports}
 
 -- a calm call ends with a text that is done or refused, or is out of memory
@@ -54,11 +55,11 @@ no_refusal None size text is refused = is
 no_refusal (Some bytes) size text is refused =
     ⊎_elim (λ fault. true≢false (sym (subst (λ r. IsOk r) fault.1.told is.0))) (λ foreign. is.1 foreign.0.told.1) refused
 
--- an image that is refused is not listed
-no_listing : (image : Option (List ℕ)) (size : ℕ) (text : List ℕ) → IsNoImage image → Lists image size text → ⊥
-no_listing None size text is lists = is
-no_listing (Some bytes) size text is lists =
-    ⊎_elim (λ refused. not_both (content_geometry bytes) refused lists.listing.0) (λ foreign. lists.listing.1 foreign) is
+-- an image that is refused is not listed or checked
+no_listing : (what : Inspection) (image : Option (List ℕ)) (size : ℕ) (text : List ℕ) → IsNoImage image → Inspects what image size text → ⊥
+no_listing what None size text is lists = is
+no_listing what (Some bytes) size text is lists =
+    ⊎_elim (λ refused. not_both (content_geometry bytes) refused lists.shown.0) (λ foreign. lists.shown.1 foreign) is
   where
     not_both : {A E : Type 0} (r : Result A E) → IsErr r → IsOk r → ⊥
     not_both (Ok x) e o = true≢false (sym e)
@@ -70,10 +71,11 @@ verdict_run input status j = (
   λ is. ⊎_elim (λ h. absurd (no_report input false j.text is h.1)) (⊎_elim (λ h. absurd h.1) (⊎_elim (λ h. inl h.0) (⊎_elim (λ h. absurd h.1) inr))) j.ended,
 )
 
-verdict_list : (image : Option (List ℕ)) (size status : ℕ) → IsJudged (list_row image size) status → IsVerdict (list_row image size) status
-verdict_list image size status j = (
+verdict_inspection : (what : Inspection) (image : Option (List ℕ)) (size status : ℕ) → IsJudged (inspection_row what image size) status
+    → IsVerdict (inspection_row what image size) status
+verdict_inspection what image size status j = (
   λ is. ⊎_elim (λ h. inl h.0) (⊎_elim (λ h. absurd h.1) (⊎_elim (λ h. absurd h.1) (⊎_elim (λ h. absurd (no_refusal image size j.text is h.1)) inr))) j.ended,
-  λ is. ⊎_elim (λ h. absurd (no_listing image size j.text is h.1)) (⊎_elim (λ h. absurd h.1) (⊎_elim (λ h. absurd h.1) (⊎_elim (λ h. inl h.0) inr))) j.ended,
+  λ is. ⊎_elim (λ h. absurd (no_listing what image size j.text is h.1)) (⊎_elim (λ h. absurd h.1) (⊎_elim (λ h. absurd h.1) (⊎_elim (λ h. inl h.0) inr))) j.ended,
 )
 
 verdict_format : (size status : ℕ) → IsJudged (format_row size) status → IsVerdict (format_row size) status
@@ -91,6 +93,7 @@ verdict_usage fault status j = (
 -- where no call fails, what is accepted is done, and what is refused ends with its refusal
 pub all_judged : CallsAreJudged
 all_judged (Ok (order.Run name)) input image size counts status old new printed calm = verdict_run input status (judged _ counts status old new printed calm)
-all_judged (Ok (order.List name)) input image size counts status old new printed calm = verdict_list image size status (judged _ counts status old new printed calm)
+all_judged (Ok (order.List name)) input image size counts status old new printed calm = verdict_inspection _ image size status (judged _ counts status old new printed calm)
+all_judged (Ok (order.Check name)) input image size counts status old new printed calm = verdict_inspection _ image size status (judged _ counts status old new printed calm)
 all_judged (Ok (order.Format name)) input image size counts status old new printed calm = verdict_format size status (judged _ counts status old new printed calm)
 all_judged (Err fault) input image size counts status old new printed calm = verdict_usage fault status (judged _ counts status old new printed calm)

@@ -14,8 +14,13 @@ pub mod WordBytes
 pub mod SameTexts
 pub mod SameNames
 pub mod SameWords
+pub mod PolicyWords
+pub mod SamePolicies
 pub mod ReplyWords
 pub mod SameReplies
 pub mod SessionLines
+pub mod SameRoutes
 pub mod OneSession
 pub mod BlankImages
+pub mod Streams
+pub mod Cli

@@ -7,26 +7,21 @@ use Rattle.script_text.specs.declared.script_fault.ScriptFault.{ScriptFault}
 use Rattle.script_text.specs.Script.{script_of}
 use Rattle.var_types.specs.Texts.{spaced}
 use Rattle.var_types.specs.declared.answered.Answered.{Answered}
-use Rattle.var_types.specs.declared.answered.Route.{Route}
-use Rattle.var_types.specs.declared.answered.Route.TheVariants.{Plain}
 use Rattle.var_types.specs.declared.call.Call.{Call}
 use Rattle.var_types.specs.Session.{calls_of}
 use Rattle.report_text.specs.declared.word.Word.TheVariants as word
 use Rattle.var_types.specs.Step.{IsOfKind}
 use Rattle.varsvc.specs.Fitting.{IsFitting}
 use Rattle.varsvc.specs.Replies.{reply_text}
-use Rattle.varsvc.specs.Report.{route_word}
+use Rattle.varsvc.specs.Report.{route_text}
 use Rattle.varsvc.specs.Runs.{OneTextOneSession, report_of}
 use Rattle.report_text.specs.Word.{word_text}
 use Rattle.varsvc.proofs.Cut.{cut}
 use Rattle.varsvc.proofs.SameReplies.{same_replies}
+use Rattle.varsvc.proofs.SameRoutes.{same_routes}
 use Rattle.varsvc.proofs.SameWords.{same_lines}
 use Rattle.varsvc.proofs.SessionLines.{answer_words, answer_texts, first_lines, last_lines, session_text-lines, AreLines-session}
-use Rattle.varsvc.proofs.WordBytes.{is_word_byte, IsWord-decimal, IsWord-word_text}
-
--- routes of one word
-same_routes : (r s : Route) → word_text (route_word r) ≡ word_text (route_word s) → r ≡ s
-same_routes Plain Plain e = refl
+use Rattle.varsvc.proofs.WordBytes.{is_word_byte, IsWord-decimal}
 
 -- answered calls of the same parts
 same_parts : (a b : Answered) → a.call ≡ b.call → a.place ≡ b.place → a.route ≡ b.route → a.reply ≡ b.reply → a ≡ b
@@ -38,19 +33,17 @@ same_answer index a b call h k e =
     let number = decimal index in
     let place = decimal a.place in
     let other = decimal b.place in
-    let route = word_text (route_word a.route) in
-    let way = word_text (route_word b.route) in
+    let route = route_text a.route in
+    let way = route_text b.route in
     let one = cut is_word_byte 32 number number (spaced (place ∷ route ∷ reply_text a.reply ∷ [])) (spaced (other ∷ way ∷ reply_text b.reply ∷ [])) refl
     (IsWord-decimal index) (IsWord-decimal index) e in
     let two = cut is_word_byte 32 place other (spaced (route ∷ reply_text a.reply ∷ [])) (spaced (way ∷ reply_text b.reply ∷ [])) refl
     (IsWord-decimal a.place) (IsWord-decimal b.place) one.1 in
-    let three = cut is_word_byte 32 route way (reply_text a.reply) (reply_text b.reply) refl
-    (IsWord-word_text (route_word a.route)) (IsWord-word_text (route_word b.route)) two.1 in
+    let three = same_routes a.route b.route (reply_text a.reply) (reply_text b.reply) h.1.2 k.1.2 two.1 in
     let same_place : a.place ≡ b.place = decimal_injective a.place b.place h.1.1 k.1.1 two.0 in
-    let same_route : a.route ≡ b.route = same_routes a.route b.route three.0 in
     let kind : IsOfKind a.call b.reply = subst (λ c. IsOfKind c b.reply) (sym call) k.0 in
     let same_reply : a.reply ≡ b.reply = same_replies a.call a.reply b.reply h.0 kind h.1.0 k.1.0 three.1 in
-    same_parts a b call same_place same_route same_reply
+    same_parts a b call same_place three.0 same_reply
 
 -- the ends of one list, as long as each other
 same_ends : (xs ys us vs : List (List ℕ)) → length us ≡ length vs → xs ++ us ≡ ys ++ vs → us ≡ vs

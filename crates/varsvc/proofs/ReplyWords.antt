@@ -21,6 +21,7 @@ use Rattle.varsvc.specs.Replies.{exit_reply_text, get_reply_text, next_reply_tex
 use Rattle.report_text.specs.Rule.{rule_text}
 use Rattle.report_text.specs.Status.{status_text}
 use Rattle.report_text.specs.Word.{word_text}
+use Rattle.varsvc.proofs.PolicyWords.{HaveWords-policy, policy_reply_text-words, policy_words}
 use Rattle.varsvc.proofs.SameWords.{HaveWords}
 use Rattle.varsvc.proofs.WordBytes.{AreWords, IsWord-attributes_text, IsWord-bytes_text, IsWord-decimal, IsWord-guid_text, IsWord-name_text, IsWord-rule_text, IsWord-status_text, IsWord-word_text}
 
@@ -73,6 +74,7 @@ abbrev pub set_words : SetReply → List (List ℕ)
 set_words set.Ok = status_text status.Success ∷ []
 set_words set.Same = status_text status.Success ∷ word_text word.Same ∷ []
 set_words (set.Refused reason) = reason_words reason
+set_words set.Device = status_text status.DeviceError ∷ []
 set_words set.OutOfMemory = status_text status.NoMemory ∷ []
 
 -- the words of the reply to the end of the boot phase
@@ -86,6 +88,7 @@ abbrev pub reply_words : Reply → List (List ℕ)
 reply_words (reply.Get r) = get_words r
 reply_words (reply.Next r) = next_words r
 reply_words (reply.Set r) = set_words r
+reply_words (reply.Policy r) = policy_words r
 reply_words (reply.Exit r) = exit_words r
 
 -- ---- a reply's text is its words, with a space between each two
@@ -142,6 +145,7 @@ unfolding set_reply_text
 set_reply_text-words set.Ok = refl
 set_reply_text-words set.Same = refl
 set_reply_text-words (set.Refused reason) = reason_text-words reason
+set_reply_text-words set.Device = refl
 set_reply_text-words set.OutOfMemory = refl
 
 -- that of the end of the boot phase
@@ -157,6 +161,7 @@ unfolding reply_text
 reply_text-words (reply.Get r) = get_reply_text-words r
 reply_text-words (reply.Next r) = next_reply_text-words r
 reply_text-words (reply.Set r) = set_reply_text-words r
+reply_text-words (reply.Policy r) = policy_reply_text-words r
 reply_text-words (reply.Exit r) = exit_reply_text-words r
 
 -- ---- they are words, at least one
@@ -208,6 +213,7 @@ HaveWords-set : (r : SetReply) → HaveWords (set_words r)
 HaveWords-set set.Ok = (IsWord-status_text _, tt)
 HaveWords-set set.Same = (IsWord-status_text _, (IsWord-word_text _, tt))
 HaveWords-set (set.Refused reason) = HaveWords-reason reason
+HaveWords-set set.Device = (IsWord-status_text _, tt)
 HaveWords-set set.OutOfMemory = (IsWord-status_text _, tt)
 
 -- those of the reply to the end of the boot phase
@@ -221,4 +227,5 @@ pub HaveWords-reply : (r : Reply) → HaveWords (reply_words r)
 HaveWords-reply (reply.Get r) = HaveWords-get r
 HaveWords-reply (reply.Next r) = HaveWords-next r
 HaveWords-reply (reply.Set r) = HaveWords-set r
+HaveWords-reply (reply.Policy r) = HaveWords-policy r
 HaveWords-reply (reply.Exit r) = HaveWords-exit r

@@ -7,21 +7,21 @@ use Rattle.script_text.specs.declared.script_fault.ScriptFault.{ScriptFault}
 use Rattle.script_text.specs.Script.{script_of, most_script_bytes}
 use Rattle.var_types.specs.declared.answered.Answered.{Answered}
 use Rattle.var_types.specs.declared.call.Call.{Call}
-use Rattle.var_types.specs.Session.{AreStepped}
+use Rattle.var_types.specs.Session.{AreStepped, calls_of}
 use Rattle.var_types.specs.State.{start}
 use Rattle.var_types.specs.Step.{IsOfKind}
 use Rattle.var_types.proofs.ReplyKinds.{IsOfKind-stepped}
 use Rattle.varsvc.specs.declared.plan.Plan.{Plan}
-use Rattle.varsvc.specs.declared.plan.Plan.TheVariants.{Print, InputFault, DeviceFault, NoMemory}
+use Rattle.varsvc.specs.declared.plan.Plan.TheVariants.{Print, Stream, InputFault, DeviceFault, NoMemory}
+use Rattle.varsvc.specs.declared.streamed.Streamed.TheVariants as streamed
 use Rattle.varsvc.specs.Fitting.{IsFitting}
 use Rattle.varsvc.specs.Input.{IsInput, most_read}
 use Rattle.varsvc.specs.Outcome.{IsText, run_row}
-use Rattle.varsvc.specs.Plan.{report_status, status_of, text_of}
-use Rattle.varsvc.specs.RunPlan.{PlansCalls, PlansRun}
+use Rattle.varsvc.specs.Plan.{HasPlanValues, report_status, status_of, text_of}
+use Rattle.varsvc.specs.RunPlan.{PlansRun}
 use Rattle.varsvc.specs.Runs.{IsSessionOf, RefusesScript, Reports, lacks_any, report_of}
 use Rattle.varsvc.specs.Values.{AnswerHasValues}
 use Rattle.varsvc.proofs.PlannedTexts.{text_done, text_lacking, text_memory}
-use Rattle.varsvc.proofs.Plans.{line_text, other_status}
 use Rattle.varsvc.proofs.Scripts.{script_of-long, script_of-take}
 
 -- a session's report has the text of its status
@@ -39,17 +39,14 @@ other_than_six : (lacking : Bool) (n : ℕ) → n ≡ (if lacking then 8 else 0)
 other_than_six true n e = λ six. omega (arith, e, six)
 other_than_six false n e = λ six. omega (arith, e, six)
 
-report_status-other : (answered : List Answered) → report_status answered ≢ 6
-report_status-other answered = other_than_six (lacks_any answered) (report_status answered) refl
-
 -- the session of the calls of a script
-session_of : (input : List ℕ) (calls : List Call) (plan : Plan) (planned : PlansCalls calls plan) → script_of input ≡ Ok (calls ∷ [])
-    → All IsFitting planned.answered → IsSessionOf input planned.answered
-session_of input calls plan planned h fitting =
-    let count : length calls ≡ length planned.answered = ap length (sym planned.same) ∙ length-map planned.answered (λ a. a.call) in
+session_of : (input : List ℕ) (calls : List Call) (answered : List Answered) → script_of input ≡ Ok (calls ∷ []) → calls_of answered ≡ calls
+    → AreStepped (start [] (max (length calls) 1)) answered → All IsFitting answered → IsSessionOf input answered
+session_of input calls answered h same stepped fitting =
+    let count : length calls ≡ length answered = ap length (sym same) ∙ length-map answered (λ a. a.call) in
     record {
-      script = h ∙ ap (λ (cs : List Call). Ok (cs ∷ [])) (sym planned.same);
-      stepped = subst (λ n. AreStepped (start [] (max n 1)) planned.answered) count planned.stepped;
+      script = h ∙ ap (λ (cs : List Call). Ok (cs ∷ [])) (sym same);
+      stepped = subst (λ n. AreStepped (start [] (max n 1)) answered) count stepped;
       fitting = fitting;
     }
 
@@ -61,30 +58,23 @@ all_fitting (x ∷ xs) kinds values =
     (all_fitting xs (All-tail (λ a. IsOfKind a.call a.reply) x xs kinds) (All-tail AnswerHasValues x xs values))
 
 -- the plan for the calls of a script has the text of its status, which is no failed read
-calls_text : (input : List ℕ) (calls : List Call) (plan : Plan) → script_of input ≡ Ok (calls ∷ []) → PlansCalls calls plan
+pub run_text : (input : List ℕ) (calls : List Call) (plan : Plan) → script_of input ≡ Ok (calls ∷ []) → PlansRun calls plan → HasPlanValues plan
     → IsText (run_row (Some input)) (status_of plan) (text_of plan)
-calls_text input calls plan h planned =
-    let xs = planned.answered in
-    let session = session_of input calls plan planned h (all_fitting xs (IsOfKind-stepped _ xs planned.stepped) planned.report.values) in
-    line_text (run_row (Some input)) (report_status xs) (report_of xs) plan (session_is_text input xs session) planned.report.report
-
-calls_status : (calls : List Call) (plan : Plan) → PlansCalls calls plan → status_of plan ≢ 6
-calls_status calls plan planned =
-    other_status 6 (report_status planned.answered) _ plan (report_status-other planned.answered) (λ e. omega (arith, e)) planned.report.report
-
--- the same, where the run may be out of memory before there is a session
-pub run_text : (input : List ℕ) (calls : List Call) (plan : Plan) → script_of input ≡ Ok (calls ∷ []) → PlansRun calls plan
-    → IsText (run_row (Some input)) (status_of plan) (text_of plan)
-run_text input calls NoMemory h planned = text_memory (run_row (Some input))
-run_text input calls InputFault h planned = calls_text input calls InputFault h planned
-run_text input calls DeviceFault h planned = calls_text input calls DeviceFault h planned
-run_text input calls (Print s t) h planned = calls_text input calls (Print s t) h planned
+run_text input calls (Print s t) h planned values = absurd planned
+run_text input calls (Stream (streamed.Report xs)) h (same, stepped) values =
+    session_is_text input xs (session_of input calls xs h same stepped (all_fitting xs (IsOfKind-stepped _ xs stepped) values))
+run_text input calls (Stream (streamed.Listing content)) h planned values = absurd planned
+run_text input calls InputFault h planned values = absurd planned
+run_text input calls DeviceFault h planned values = absurd planned
+run_text input calls NoMemory h planned values = text_memory (run_row (Some input))
 
 pub run_status : (calls : List Call) (plan : Plan) → PlansRun calls plan → status_of plan ≢ 6
+run_status calls (Print s t) planned = absurd planned
+run_status calls (Stream (streamed.Report xs)) planned = other_than_six (lacks_any xs) (report_status xs) refl
+run_status calls (Stream (streamed.Listing content)) planned = absurd planned
+run_status calls InputFault planned = absurd planned
+run_status calls DeviceFault planned = absurd planned
 run_status calls NoMemory planned = λ e. omega (arith, e)
-run_status calls InputFault planned = calls_status calls InputFault planned
-run_status calls DeviceFault planned = calls_status calls DeviceFault planned
-run_status calls (Print s t) planned = calls_status calls (Print s t) planned
 
 -- what is read says the same of the script as all that was left
 script_of-input : (left : Option (List ℕ)) (input : List ℕ) → IsInput left input → IfSome left (λ bytes. script_of input ≡ script_of bytes)
@@ -120,11 +110,11 @@ text_of_input left input status text h is =
       memory = λ e. ⊎_elim (λ line. inl line) (λ reports. inr (reports_left left input text true same reports)) (is.memory e);
     }
 
--- an input that is run is shorter than what is read at most
-pub run_is_short : (input : List ℕ) (status : ℕ) (text : List ℕ) → IsText (run_row (Some input)) status text → status ≡ 0 → length input < most_read
-run_is_short input status text is done =
+-- an input that is a script is shorter than what is read at most
+pub script_is_short : (input : List ℕ) (script : List (List Call)) → script_of input ≡ Ok script → length input < most_read
+script_is_short input script h =
     ⊎_elim
-    (λ (gt : most_script_bytes < length input). absurd (two_answers (sym (script_of-long input gt) ∙ (is.done done).1.script)))
+    (λ (gt : most_script_bytes < length input). absurd (two_answers (sym (script_of-long input gt) ∙ h)))
     (λ (le : length input ≤ most_script_bytes). omega (arith, le))
     (cases_lt most_script_bytes (length input))
   where

@@ -30,6 +30,7 @@ use Rattle.report_text.specs.Status.{status_text}
 use Rattle.report_text.specs.Word.{word_text}
 use Rattle.varsvc.proofs.ReplyWords.{exit_words, get_words, next_words, fault_words, reason_words, set_words, reply_words, reply_text-words, HaveWords-reply}
 use Rattle.varsvc.proofs.SameNames.{same_names}
+use Rattle.varsvc.proofs.SamePolicies.{same_policy}
 use Rattle.varsvc.proofs.SameTexts.{same_attributes, same_bytes, same_guids}
 use Rattle.varsvc.proofs.SameWords.{same_words}
 
@@ -227,39 +228,42 @@ same_reason r s h k e =
     let tags : tag r ≡ tag s = sym (tag_is r) ∙ ap (λ words. tag_by (code (word_at 0 words)) (code (word_at 1 words))) e ∙ tag_is s in
     absurd (omega (arith, tags))
 
--- the status of a denial is neither that of success nor that of a call out of memory
+-- the status of a denial is none of success, of a call out of memory and of a failed flash
 denied_status : (rule : Rule) → (number_at 0 (status_text (rule_status rule) ∷ []) ≡ number_at 0 (set_words set.Ok) → ⊥)
     × (number_at 0 (status_text (rule_status rule) ∷ []) ≡ number_at 0 (set_words set.OutOfMemory) → ⊥)
+    × (number_at 0 (status_text (rule_status rule) ∷ []) ≡ number_at 0 (set_words set.Device) → ⊥)
 unfolding status_text
-denied_status rules.MinSize = (omega arith, omega arith)
-denied_status rules.MaxSize = (omega arith, omega arith)
-denied_status rules.Must = (omega arith, omega arith)
-denied_status rules.Cant = (omega arith, omega arith)
-denied_status rules.LockNow = (omega arith, omega arith)
-denied_status rules.LockOnCreate = (omega arith, omega arith)
-denied_status rules.LockOnState = (omega arith, omega arith)
+denied_status rules.MinSize = (omega arith, omega arith, omega arith)
+denied_status rules.MaxSize = (omega arith, omega arith, omega arith)
+denied_status rules.Must = (omega arith, omega arith, omega arith)
+denied_status rules.Cant = (omega arith, omega arith, omega arith)
+denied_status rules.LockNow = (omega arith, omega arith, omega arith)
+denied_status rules.LockOnCreate = (omega arith, omega arith, omega arith)
+denied_status rules.LockOnState = (omega arith, omega arith, omega arith)
 
--- a refusal's first word is neither that of success nor that of a call out of memory
-refused : (r : SetReason) → (number_at 0 (reason_words r) ≡ number_at 0 (set_words set.Ok) → ⊥) × (number_at 0 (reason_words r) ≡ number_at 0 (set_words set.OutOfMemory) → ⊥)
+-- a refusal's first word is none of success, of a call out of memory and of a failed flash
+refused : (r : SetReason) → (number_at 0 (reason_words r) ≡ number_at 0 (set_words set.Ok) → ⊥)
+    × (number_at 0 (reason_words r) ≡ number_at 0 (set_words set.OutOfMemory) → ⊥)
+    × (number_at 0 (reason_words r) ≡ number_at 0 (set_words set.Device) → ⊥)
 unfolding status_text word_text
-refused (reason.Name x) = (omega arith, omega arith)
-refused (reason.Unsupported bits) = (omega arith, omega arith)
-refused (reason.Unknown bits) = (omega arith, omega arith)
-refused reason.RuntimeWithoutBoot = (omega arith, omega arith)
-refused reason.Hidden = (omega arith, omega arith)
-refused reason.VolatileAtRuntime = (omega arith, omega arith)
-refused reason.RuntimeNeedsNonVolatile = (omega arith, omega arith)
-refused (reason.Descriptor at) = (omega arith, omega arith)
-refused (reason.Size have limit) = (omega arith, omega arith)
+refused (reason.Name x) = (omega arith, omega arith, omega arith)
+refused (reason.Unsupported bits) = (omega arith, omega arith, omega arith)
+refused (reason.Unknown bits) = (omega arith, omega arith, omega arith)
+refused reason.RuntimeWithoutBoot = (omega arith, omega arith, omega arith)
+refused reason.Hidden = (omega arith, omega arith, omega arith)
+refused reason.VolatileAtRuntime = (omega arith, omega arith, omega arith)
+refused reason.RuntimeNeedsNonVolatile = (omega arith, omega arith, omega arith)
+refused (reason.Descriptor at) = (omega arith, omega arith, omega arith)
+refused (reason.Size have limit) = (omega arith, omega arith, omega arith)
 refused (reason.Denied place rule) = denied_status rule
-refused reason.Missing = (omega arith, omega arith)
-refused reason.NeedsAuthentication = (omega arith, omega arith)
-refused (reason.AttributesDiffer stored asked) = (omega arith, omega arith)
-refused reason.Verdict = (omega arith, omega arith)
-refused (reason.Stamp stored new) = (omega arith, omega arith)
-refused (reason.AppendSize have limit) = (omega arith, omega arith)
-refused (reason.Room need have) = (omega arith, omega arith)
-refused (reason.HistoryFull made) = (omega arith, omega arith)
+refused reason.Missing = (omega arith, omega arith, omega arith)
+refused reason.NeedsAuthentication = (omega arith, omega arith, omega arith)
+refused (reason.AttributesDiffer stored asked) = (omega arith, omega arith, omega arith)
+refused reason.Verdict = (omega arith, omega arith, omega arith)
+refused (reason.Stamp stored new) = (omega arith, omega arith, omega arith)
+refused (reason.AppendSize have limit) = (omega arith, omega arith, omega arith)
+refused (reason.Room need have) = (omega arith, omega arith, omega arith)
+refused (reason.HistoryFull made) = (omega arith, omega arith, omega arith)
 
 -- replies of a set with the same words
 same_set : (r s : SetReply) → HasValuesOfSet r → HasValuesOfSet s → set_words r ≡ set_words s → r ≡ s
@@ -268,12 +272,15 @@ same_set set.Same set.Same h k e = refl
 same_set (set.Refused x) (set.Refused y) h k e =
     let reason : x ≡ y = same_reason x y h k e in
     cc
+same_set set.Device set.Device h k e = refl
 same_set set.OutOfMemory set.OutOfMemory h k e = refl
 same_set (set.Refused x) set.Ok h k e = absurd ((refused x).0 (ap (number_at 0) e))
 same_set (set.Refused x) set.Same h k e = absurd ((refused x).0 (ap (number_at 0) e))
+same_set (set.Refused x) set.Device h k e = absurd ((refused x).2 (ap (number_at 0) e))
 same_set (set.Refused x) set.OutOfMemory h k e = absurd ((refused x).1 (ap (number_at 0) e))
 same_set set.Ok (set.Refused y) h k e = absurd ((refused y).0 (ap (number_at 0) (sym e)))
 same_set set.Same (set.Refused y) h k e = absurd ((refused y).0 (ap (number_at 0) (sym e)))
+same_set set.Device (set.Refused y) h k e = absurd ((refused y).2 (ap (number_at 0) (sym e)))
 same_set set.OutOfMemory (set.Refused y) h k e = absurd ((refused y).1 (ap (number_at 0) (sym e)))
 same_set r s h k e = unfold status_text word_text in
     let first : number_at 0 (set_words r) ≡ number_at 0 (set_words s) = ap (number_at 0) e in
@@ -307,6 +314,9 @@ same_replies (call.Next c) (reply.Next r) (reply.Next s) p q h k e =
     cc
 same_replies (call.Set c) (reply.Set r) (reply.Set s) p q h k e =
     let same : r ≡ s = same_set r s h k (words_from_text (reply.Set r) (reply.Set s) e) in
+    cc
+same_replies (call.Policy c) (reply.Policy r) (reply.Policy s) p q h k e =
+    let same : r ≡ s = same_policy r s p q h k (words_from_text (reply.Policy r) (reply.Policy s) e) in
     cc
 same_replies call.ExitBoot (reply.Exit r) (reply.Exit s) p q h k e =
     let same : r ≡ s = same_exit r s h k (words_from_text (reply.Exit r) (reply.Exit s) e) in

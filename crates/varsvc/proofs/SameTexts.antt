@@ -4,7 +4,7 @@ use Rattle.std.proofs.lemmas.List.{append_cancel_left, get_or_past}
 use Rattle.std.proofs.lemmas.List.Elements.{All-from_recursion}
 use Rattle.std.proofs.lemmas.Nat.{from_be_bytes-to_be_bytes_4}
 use Rattle.std.specs.Int.{to_be_bytes, from_be_bytes, w16, w32}
-use Rattle.hex.specs.Hex.{IsBytes, encode_lower, decode_of}
+use Rattle.hex.specs.Hex.{IsBytes, encode_lower, encode_with, decode_of, decode_pairs}
 use Rattle.hex.proofs.HexLemmas.{decode_of-encode_lower}
 use Rattle.uuid.specs.Parts.{swap_fields}
 use Rattle.uuid.specs.Text.{lower, parsed}
@@ -74,6 +74,35 @@ same_bytes xs ys h k =
         | true ↦ λ none e. absurd (no_dash xs (IsBytes-from_all xs h) (sym e))
         | false ↦ λ also e. same_hex xs ys (IsBytes-from_all xs h) (IsBytes-from_all ys k) e
       ] refl
+    ] refl
+
+-- what the words of policy aren't
+abbrev IsNoWord : List ℕ → Type 0
+IsNoWord text = (text ≡ codes "on" → ⊥) × (text ≡ codes "off" → ⊥) × (text ≡ [] → ⊥)
+
+-- the digits of some bytes are some
+some_hex : (bytes : List ℕ) → eqb (length bytes) 0 ≡ false → encode_lower bytes ≡ [] → ⊥
+unfolding encode_with
+some_hex [] some e = cc
+some_hex (b ∷ bs) some e = cc
+
+-- hexadecimal digits are none of these words
+no_hex : (bytes : List ℕ) → IsBytes bytes → eqb (length bytes) 0 ≡ false → IsNoWord (encode_lower bytes)
+unfolding decode_pairs
+no_hex bytes h some =
+    let read = decode_of-encode_lower bytes h in (
+      λ e. let same : decode_of (encode_lower bytes) ≡ decode_of (codes "on") = ap decode_of e in cc,
+      λ e. let same : decode_of (encode_lower bytes) ≡ decode_of (codes "off") = ap decode_of e in cc,
+      some_hex bytes some,
+    )
+
+-- no bytes print as `on`, as `off`, or as nothing
+pub no_bytes_text : (bytes : List ℕ) → AreBytes bytes → IsNoWord (bytes_text bytes)
+unfolding bytes_text
+no_bytes_text bytes are =
+    elim (eqb (length bytes) 0) as (λ b. eqb (length bytes) 0 ≡ b → IsNoWord (if b then codes "-" else encode_lower bytes)) [
+      | true ↦ λ none. (λ e. cc, λ e. cc, λ e. cc)
+      | false ↦ λ some. no_hex bytes (IsBytes-from_all bytes are) some
     ] refl
 
 -- ---- GUIDs

@@ -3,10 +3,14 @@ use Rattle.std.proofs.lemmas.List.{append-nil}
 use Rattle.std.proofs.lemmas.List.Concat.{flat_map-append}
 use Rattle.std.proofs.lemmas.List.Folds.{flat_map-map}
 use Rattle.var_types.specs.Texts.{spaced}
-use Rattle.script_text.specs.Texts.{call_text, call_words_of, verdict_words}
+use Rattle.script_text.specs.Texts.{call_text, call_words_of, policy_words_of, verdict_words}
 use Rattle.var_types.specs.declared.answered.Answered.{Answered}
+use Rattle.var_types.specs.declared.answered.Route.{Route}
+use Rattle.var_types.specs.declared.answered.Route.TheVariants as route
 use Rattle.var_types.specs.declared.call.Call.{Call}
 use Rattle.var_types.specs.declared.call.Call.TheVariants as call
+use Rattle.var_types.specs.declared.policy_call.PolicyCall.{PolicyCall}
+use Rattle.var_types.specs.declared.policy_call.PolicyCall.TheVariants as policy
 use Rattle.var_types.specs.declared.reply.Reply.{Reply}
 use Rattle.var_types.specs.declared.verdict.Verdict.{Verdict}
 use Rattle.var_types.specs.declared.verdict.Verdict.TheVariants.{Good, Bad}
@@ -15,7 +19,7 @@ use Rattle.var_types.specs.Session.{history_of}
 use Rattle.report_text.specs.declared.word.Word.{Word}
 use Rattle.report_text.specs.declared.word.Word.TheVariants as word
 use Rattle.varsvc.specs.Replies.{reply_text}
-use Rattle.varsvc.specs.Report.{entry_line, history_lines, route_word, answer_line, indexed, processor_lines, session_text}
+use Rattle.varsvc.specs.Report.{entry_line, history_lines, route_text, answer_line, indexed, processor_lines, session_text}
 use Rattle.report_text.specs.Line.{line_text}
 use Rattle.report_text.specs.Word.{word_text}
 use Rattle.varsvc.proofs.ReplyWords.{reply_words, reply_text-words, HaveWords-reply}
@@ -30,7 +34,7 @@ entry_words entry = decimal entry.number ∷ decimal entry.processor ∷ decimal
 
 -- the words of an answered call's line; its reply is the last of them
 abbrev pub answer_words : ℕ → Answered → List (List ℕ)
-answer_words index a = decimal index ∷ decimal a.place ∷ word_text (route_word a.route) ∷ reply_text a.reply ∷ []
+answer_words index a = decimal index ∷ decimal a.place ∷ route_text a.route ∷ reply_text a.reply ∷ []
 
 -- the lines of answered calls, the first of which has this index
 abbrev pub answer_texts : ℕ → List Answered → List (List ℕ)
@@ -98,12 +102,21 @@ AreWords-verdict : (verdict : Verdict) → AreWords (verdict_words verdict)
 AreWords-verdict Good = tt
 AreWords-verdict Bad = (refl, tt)
 
+-- the words of a call about the policies
+AreWords-policy : (c : PolicyCall) → AreWords (policy_words_of c)
+AreWords-policy (policy.Register bytes) = (refl, (IsWord-bytes_text bytes, tt))
+AreWords-policy policy.Lock = (refl, tt)
+AreWords-policy policy.Disable = (refl, tt)
+AreWords-policy policy.Enabled = (refl, tt)
+AreWords-policy (policy.At place) = (refl, (IsWord-decimal place, tt))
+
 -- the words of a call
 AreWords-call : (c : Call) → AreWords (call_words_of c)
 AreWords-call (call.Get c) = (refl, (IsWord-guid_text c.guid, (IsWord-name_text c.name, (IsWord-decimal c.room, tt))))
 AreWords-call (call.Next c) = (refl, (IsWord-guid_text c.guid, (IsWord-name_text c.name, (IsWord-decimal c.room, tt))))
 AreWords-call (call.Set c) =
     (refl, (IsWord-guid_text c.guid, (IsWord-name_text c.name, (IsWord-attributes_text c.attributes, (IsWord-bytes_text c.bytes, AreWords-verdict c.verdict)))))
+AreWords-call (call.Policy c) = AreWords-policy c
 AreWords-call call.ExitBoot = (refl, tt)
 
 -- a call
@@ -130,6 +143,19 @@ number_line n = IsLine-word (decimal n) (IsWord-decimal n)
 word_line : (w : Word) → IsLine (word_text w)
 word_line w = IsLine-word (word_text w) (IsWord-word_text w)
 
+-- a route
+IsLine-route : (r : Route) → IsLine (route_text r)
+unfolding route_text
+IsLine-route route.Plain = word_line word.Plain
+IsLine-route route.Cache = word_line word.Cache
+IsLine-route (route.Merged made held) =
+    IsLine-spaced (word_text word.Merged ∷ decimal made ∷ decimal held ∷ []) (word_line word.Merged, (number_line made, (number_line held, tt)))
+IsLine-route (route.Writer holder) =
+    IsLine-spaced (word_text word.Writer ∷ decimal holder ∷ []) (word_line word.Writer, (number_line holder, tt))
+IsLine-route route.Flushed = word_line word.Flushed
+IsLine-route (route.Deferred holder) =
+    IsLine-spaced (word_text word.Deferred ∷ decimal holder ∷ []) (word_line word.Deferred, (number_line holder, tt))
+
 -- the lines of changes
 AreLines-history : (history : List Entry) → AreLines (map entry_text history)
 AreLines-history [] = tt
@@ -142,7 +168,7 @@ AreLines-history (entry ∷ rest) = (
 AreLines-answers : (index : ℕ) (xs : List Answered) → AreLines (answer_texts index xs)
 AreLines-answers index [] = tt
 AreLines-answers index (a ∷ rest) = (
-  IsLine-spaced (answer_words index a) (number_line index, (number_line a.place, (word_line (route_word a.route), (IsLine-reply a.reply, tt)))),
+  IsLine-spaced (answer_words index a) (number_line index, (number_line a.place, (IsLine-route a.route, (IsLine-reply a.reply, tt)))),
   AreLines-answers (index + 1) rest,
 )
 

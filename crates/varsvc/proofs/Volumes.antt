@@ -1,5 +1,5 @@
 -- The listing of what an image keeps, and the refusals of it.
-use Rattle.std.proofs.Common.{◌≡◌, ◌≢◌, inl, inr, ℕ, true, false, List, length, take, drop, Option, Some, None, Result, Ok, Err, IsErr, IsOk, IfSome, refl, sym, ap, ◌∙◌, subst, arith}
+use Rattle.std.proofs.Common.{◌≡◌, ◌≢◌, inl, inr, ℕ, List, length, take, Option, Some, None, Result, Ok, Err, IsOk, IfSome, refl, sym, ap, ◌∙◌, subst, arith, Bool}
 use Rattle.std.specs.Prelude.{if◌then◌else◌}
 use Rattle.std.proofs.lemmas.Bool.{eq-eqb, ne_eqb}
 use Rattle.flash_dev.specs.declared.geometry.Geometry.{Geometry}
@@ -8,23 +8,20 @@ use Rattle.flash_dev.specs.declared.image_fault.ImageFault.TheVariants as image
 use Rattle.flash_dev.specs.Geometry.{geometry_of}
 use Rattle.ftw_mount.specs.declared.kept.Kept.{Kept}
 use Rattle.ftw_mount.specs.Mount.{Describes, content_geometry}
-use Rattle.report_text.specs.Listing.{listing_text}
-use Rattle.var_types.specs.Kept.{IsForeign, IsSound, content, kept}
-use Rattle.var_types.specs.Layout.{headers_size, image_size}
-use Rattle.var_types.specs.Record.{Authenticated}
-use Rattle.var_types.specs.Region.{region_map}
+use Rattle.var_types.specs.Kept.{IsForeign, IsSound, content, kept, work_area}
+use Rattle.report_text.specs.Check.{check_text, facts_of}
+use Rattle.var_types.specs.declared.work_state.WorkState.{WorkState}
+use Rattle.var_types.specs.WorkArea.{work_state}
+use Rattle.varsvc.specs.declared.inspection.Inspection.{Inspection}
+use Rattle.varsvc.specs.declared.inspection.Inspection.TheVariants as inspection
 use Rattle.varsvc.specs.declared.plan.Plan.{Plan}
-use Rattle.varsvc.specs.declared.plan.Plan.TheVariants.{DeviceFault}
+use Rattle.varsvc.specs.declared.plan.Plan.TheVariants.{DeviceFault, Stream}
 use Rattle.varsvc.specs.FaultLines.{foreign_line, image_line}
-use Rattle.varsvc.specs.Images.{IsFaultOf, IsForeignImage, IsRead, Lists, RefusesList}
-use Rattle.varsvc.specs.Outcome.{IsText, list_row}
-use Rattle.varsvc.specs.Plan.{PlansFault, PlansLine, status_of, text_of}
+use Rattle.varsvc.specs.Images.{Inspects, IsFaultOf, IsForeignImage, IsRead, inspected}
+use Rattle.varsvc.specs.Outcome.{IsText, inspection_row}
+use Rattle.varsvc.specs.Plan.{IsStreamed, PlansFault, PlansLine, status_of, text_of, content_text, volume_listing, volume_region}
 use Rattle.varsvc.proofs.PlannedTexts.{text_done, text_image}
-use Rattle.varsvc.proofs.Plans.{line_text, other_status}
-
--- the listing of the region that a content is
-abbrev pub volume_listing : List ℕ → List ℕ
-volume_listing volume = listing_text (region_map (record { form = Authenticated; bytes = volume; first = headers_size; non_volatile = true }))
+use Rattle.varsvc.proofs.Plans.{line_text, other_status, unstreamed}
 
 -- what was read says what the content's geometry is
 read_geometry : (is : Kept) (bytes cells : List ℕ) → IsRead is bytes cells → geometry_of (take 100 bytes) ≡ content_geometry cells
@@ -36,22 +33,29 @@ read_geometry is bytes cells read =
     (eq-eqb (length cells) 131072 read.whole)
     )
 
--- the listing of a content that is accepted and no foreign work is the image's
-content_lists : (is : Kept) (bytes : List ℕ) (told : Option (List ℕ)) → IsOk (geometry_of (take 100 bytes))
-    → ((cells : List ℕ) → Describes is cells → IsSound cells) → IfSome told (IsRead is bytes) → Lists told 131072 (volume_listing bytes)
+-- what is printed of a content is what is printed of the image
+content_shown : (what : Inspection) (is : Kept) (bytes cells : List ℕ) → IsRead is bytes cells → content_text what is bytes ≡ inspected what cells
 unfolding kept
-content_lists is bytes None accepted sound read = record { length = refl; listing = tt }
-content_lists is bytes (Some cells) accepted sound read = record {
+content_shown inspection.Listing is bytes cells read = ap volume_listing read.is_content
+content_shown inspection.Check is bytes cells read =
+    ap (λ (b : List ℕ). check_text (facts_of (volume_region b) is.state is.blank)) read.is_content
+    ∙ ap (λ (s : WorkState). check_text (facts_of (volume_region (content cells)) s is.blank)) read.describes.state
+    ∙ ap (λ (b : Bool). check_text (facts_of (volume_region (content cells)) (work_state (work_area cells)) b)) read.describes.blank
+
+-- of a content that is accepted and no foreign work
+content_inspects : (what : Inspection) (is : Kept) (bytes : List ℕ) (told : Option (List ℕ)) → IsOk (geometry_of (take 100 bytes))
+    → ((cells : List ℕ) → Describes is cells → IsSound cells) → IfSome told (IsRead is bytes) → Inspects what told 131072 (content_text what is bytes)
+content_inspects what is bytes None accepted sound read = record { length = refl; shown = tt }
+content_inspects what is bytes (Some cells) accepted sound read = record {
   length = refl;
-  listing = (subst IsOk (read_geometry is bytes cells read) accepted, sound cells read.describes, ap volume_listing read.is_content);
+  shown = (subst IsOk (read_geometry is bytes cells read) accepted, sound cells read.describes, content_shown what is bytes cells read);
 }
 
-pub listed_text : (is : Kept) (bytes : List ℕ) (told : Option (List ℕ)) (plan : Plan) → IsOk (geometry_of (take 100 bytes))
-    → ((cells : List ℕ) → Describes is cells → IsSound cells) → IfSome told (IsRead is bytes) → PlansLine 0 (volume_listing bytes) plan
-    → IsText (list_row told 131072) (status_of plan) (text_of plan)
-listed_text is bytes told plan accepted sound read plans =
-    line_text (list_row told 131072) 0 (volume_listing bytes) plan
-    (text_done (list_row told 131072) (volume_listing bytes) (content_lists is bytes told accepted sound read)) plans
+pub shown_text : (what : Inspection) (is : Kept) (bytes : List ℕ) (told : Option (List ℕ)) → IsOk (geometry_of (take 100 bytes))
+    → ((cells : List ℕ) → Describes is cells → IsSound cells) → IfSome told (IsRead is bytes)
+    → IsText (inspection_row what told 131072) 0 (content_text what is bytes)
+shown_text what is bytes told accepted sound read =
+    text_done (inspection_row what told 131072) (content_text what is bytes) (content_inspects what is bytes told accepted sound read)
 
 -- the image is refused as foreign work
 content_foreign : (is : Kept) (bytes : List ℕ) (told : Option (List ℕ)) → IsOk (geometry_of (take 100 bytes))
@@ -62,12 +66,12 @@ content_foreign is bytes (Some cells) accepted foreign read = record {
   told = (subst IsOk (read_geometry is bytes cells read) accepted, foreign cells read.describes);
 }
 
-pub foreign_text : (is : Kept) (bytes : List ℕ) (told : Option (List ℕ)) (plan : Plan) → IsOk (geometry_of (take 100 bytes))
+pub foreign_text : (what : Inspection) (is : Kept) (bytes : List ℕ) (told : Option (List ℕ)) (plan : Plan) → IsOk (geometry_of (take 100 bytes))
     → ((cells : List ℕ) → Describes is cells → IsForeign cells) → IfSome told (IsRead is bytes) → PlansLine 4 foreign_line plan
-    → IsText (list_row told 131072) (status_of plan) (text_of plan)
-foreign_text is bytes told plan accepted foreign read plans =
-    line_text (list_row told 131072) 4 foreign_line plan
-    (text_image (list_row told 131072) foreign_line (inr (content_foreign is bytes told accepted foreign read, refl))) plans
+    → IsText (inspection_row what told 131072) (status_of plan) (text_of plan)
+foreign_text what is bytes told plan accepted foreign read plans =
+    line_text (inspection_row what told 131072) 4 foreign_line plan
+    (text_image (inspection_row what told 131072) foreign_line (inr (content_foreign is bytes told accepted foreign read, refl))) plans
 
 -- the plan for a fault that isn't the flash's prints its line
 fault_line : (fault : ImageFault) (plan : Plan) → fault ≢ image.Device → PlansFault fault plan → PlansLine 4 (image_line fault) plan
@@ -89,12 +93,12 @@ content_fault is bytes fault None other refused read = record { told = tt; by_le
 content_fault is bytes fault (Some cells) other refused read =
     record { told = sym (read_geometry is bytes cells read) ∙ refused; by_length = λ size. absurd (size refl); is_image = other }
 
-pub fault_text : (is : Kept) (bytes : List ℕ) (fault : ImageFault) (told : Option (List ℕ)) (plan : Plan) → fault ≢ image.Device
+pub fault_text : (what : Inspection) (is : Kept) (bytes : List ℕ) (fault : ImageFault) (told : Option (List ℕ)) (plan : Plan) → fault ≢ image.Device
     → geometry_of (take 100 bytes) ≡ Err fault → IfSome told (IsRead is bytes) → PlansFault fault plan
-    → IsText (list_row told 131072) (status_of plan) (text_of plan)
-fault_text is bytes fault told plan other refused read plans =
-    line_text (list_row told 131072) 4 (image_line fault) plan
-    (text_image (list_row told 131072) (image_line fault) (inl (fault, content_fault is bytes fault told other refused read, refl)))
+    → IsText (inspection_row what told 131072) (status_of plan) (text_of plan)
+fault_text what is bytes fault told plan other refused read plans =
+    line_text (inspection_row what told 131072) 4 (image_line fault) plan
+    (text_image (inspection_row what told 131072) (image_line fault) (inl (fault, content_fault is bytes fault told other refused read, refl)))
     (fault_line fault plan other plans)
 
 -- the image is refused for its length
@@ -105,11 +109,11 @@ size_fault None size other law = record { told = tt; by_length = λ e. refl; is_
 size_fault (Some cells) size other law =
     record { told = rw (ne_eqb (length cells) 131072 (λ e. other (sym law ∙ e)), law) refl; by_length = λ e. refl; is_image = λ e. cc }
 
-pub size_text : (told : Option (List ℕ)) (size : ℕ) (plan : Plan) → size ≢ 131072 → IfSome told (λ cells. length cells ≡ size)
-    → PlansLine 4 (image_line (image.ImageSize size 131072)) plan → IsText (list_row told size) (status_of plan) (text_of plan)
-size_text told size plan other law plans =
-    line_text (list_row told size) 4 (image_line (image.ImageSize size 131072)) plan
-    (text_image (list_row told size) (image_line (image.ImageSize size 131072)) (inl (image.ImageSize size 131072, size_fault told size other law, refl))) plans
+pub size_text : (what : Inspection) (told : Option (List ℕ)) (size : ℕ) (plan : Plan) → size ≢ 131072 → IfSome told (λ cells. length cells ≡ size)
+    → PlansLine 4 (image_line (image.ImageSize size 131072)) plan → IsText (inspection_row what told size) (status_of plan) (text_of plan)
+size_text what told size plan other law plans =
+    line_text (inspection_row what told size) 4 (image_line (image.ImageSize size 131072)) plan
+    (text_image (inspection_row what told size) (image_line (image.ImageSize size 131072)) (inl (image.ImageSize size 131072, size_fault told size other law, refl))) plans
 
 -- what was read of an image
 pub is_read : (is : Kept) (bytes : List ℕ) (told : Option (List ℕ)) → IfSome told (λ cells. length cells ≡ 131072) → IfSome told (Describes is)
@@ -120,3 +124,12 @@ is_read is bytes (Some cells) whole describes read = record { whole = whole; des
 -- what was found to be accepted is
 pub is_accepted : (r found : Result Geometry ImageFault) (geometry : Geometry) → r ≡ found → r ≡ Ok geometry → IsOk found
 is_accepted r found geometry same is = subst IsOk (sym is ∙ same) refl
+
+-- the plan for a fault is written before it is printed
+pub fault_unstreamed : (fault : ImageFault) (plan : Plan) → PlansFault fault plan → ¬ IsStreamed plan
+fault_unstreamed (image.ImageSize have want) plan plans = unstreamed 4 _ plan plans
+fault_unstreamed (image.NotAVolume at) plan plans = unstreamed 4 _ plan plans
+fault_unstreamed (image.BlockSize value) plan plans = unstreamed 4 _ plan plans
+fault_unstreamed (image.BadSum sum) plan plans = unstreamed 4 _ plan plans
+fault_unstreamed (image.NotAStore at) plan plans = unstreamed 4 _ plan plans
+fault_unstreamed image.Device plan plans = λ (streamed, is). let other : DeviceFault ≡ Stream streamed = sym plans ∙ is in cc

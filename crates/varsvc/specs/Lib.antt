@@ -1,8 +1,11 @@
 pub mod Order
+pub mod Cli
 pub mod FaultLines
+pub mod PolicyReplies
 pub mod Replies
 pub mod Report
 pub mod Input
+pub mod PolicyValues
 pub mod Values
 pub mod Fitting
 pub mod Runs

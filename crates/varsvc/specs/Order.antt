@@ -18,6 +18,7 @@ abbrev pub verb_of : List ℕ → Option Verb
 verb_of word =
     if pointwise ◌==◌ word (codes "run") then Some verb.Run
     else if pointwise ◌==◌ word (codes "list") then Some verb.List
+    else if pointwise ◌==◌ word (codes "check") then Some verb.Check
     else if pointwise ◌==◌ word (codes "format") then Some verb.Format
     else None
 
@@ -25,12 +26,14 @@ verb_of word =
 abbrev pub order_with : Verb → List ℕ → Order
 order_with verb.Run image = order.Run image
 order_with verb.List image = order.List image
+order_with verb.Check image = order.Check image
 order_with verb.Format image = order.Format image
 
 -- the image that an order is about
 abbrev pub image_of : Order → List ℕ
 image_of (order.Run image) = image
 image_of (order.List image) = image
+image_of (order.Check image) = image
 image_of (order.Format image) = image
 
 -- the words behind a verb: the image alone

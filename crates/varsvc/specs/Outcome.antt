@@ -8,12 +8,14 @@ use Rattle.flash_dev.specs.Rules.{IsKept, Leaves}
 use Rattle.outside.specs.Faults.{HasRisen}
 use Rattle.outside.specs.Written.{AppendsPart}
 use Rattle.var_types.specs.Layout.{image_size}
+use Rattle.varsvc.specs.declared.inspection.Inspection.{Inspection}
+use Rattle.varsvc.specs.declared.inspection.Inspection.TheVariants as inspection
 use Rattle.varsvc.specs.declared.order.Order.{Order}
 use Rattle.varsvc.specs.declared.order.Order.TheVariants as order
 use Rattle.varsvc.specs.declared.usage.UsageFault.{UsageFault}
 use Rattle.varsvc.specs.FaultLines.{device_line, input_line, memory_line, usage_line}
 use Rattle.varsvc.specs.Input.{TakesAtMost, most_read}
-use Rattle.varsvc.specs.Images.{Formats, IsImage, IsNoImage, Lists, RefusesFormat, RefusesList}
+use Rattle.varsvc.specs.Images.{Formats, Inspects, IsImage, IsNoImage, RefusesFormat, RefusesList}
 use Rattle.varsvc.specs.Order.{IsRunOrder}
 use Rattle.varsvc.specs.Runs.{IsNoScript, IsScript, RefusesScript, Reports}
 
@@ -60,10 +62,10 @@ run_row input = record {
   refusal = 3;
 }
 
--- listing an image
-abbrev pub list_row : Option (List ℕ) → ℕ → Row
-list_row image size = record {
-  output = Lists image size;
+-- listing or checking an image
+abbrev pub inspection_row : Inspection → Option (List ℕ) → ℕ → Row
+inspection_row what image size = record {
+  output = Inspects what image size;
   usage = NoText;
   script = NoText;
   image = RefusesList image size;
@@ -117,7 +119,8 @@ usage_row fault = record {
 -- the table of verbs: what is done, by what the words ask for, what is told of source and image, and the image's length (this project's own)
 abbrev pub row : Result Order UsageFault → Option (List ℕ) → Option (List ℕ) → ℕ → Row
 row (Ok (order.Run name)) input image size = run_row input
-row (Ok (order.List name)) input image size = list_row image size
+row (Ok (order.List name)) input image size = inspection_row inspection.Listing image size
+row (Ok (order.Check name)) input image size = inspection_row inspection.Check image size
 row (Ok (order.Format name)) input image size = format_row size
 row (Err fault) input image size = usage_row fault
 

@@ -1,33 +1,112 @@
-use Rattle.std.specs.Prelude.{◌≡◌, ℕ, false, List, if◌then◌else◌}
+-- What a call of the program is to print.
+use Rattle.std.specs.Prelude.{◌≡◌, ◌≢◌, ◌⊎◌, ℕ, true, false, List, Option, if◌then◌else◌, All}
+use Rattle.std.specs.Io.KnownBytes.{Appends}
 use Rattle.flash_dev.specs.declared.image_fault.ImageFault.{ImageFault}
 use Rattle.flash_dev.specs.declared.image_fault.ImageFault.TheVariants as image
+use Rattle.outside.specs.Written.{AppendsPart}
+use Rattle.ftw_mount.specs.declared.kept.Kept.{Kept}
+use Rattle.report_text.specs.Check.{check_text, facts_of}
+use Rattle.report_text.specs.Listing.{listing_text}
 use Rattle.var_types.specs.declared.answered.Answered.{Answered}
+use Rattle.var_types.specs.Layout.{headers_size}
 use Rattle.var_types.specs.Put.{Text}
+use Rattle.var_types.specs.Record.{Authenticated}
+use Rattle.var_types.specs.Region.{Region, region_map}
+use Rattle.varsvc.specs.declared.inspection.Inspection.{Inspection}
+use Rattle.varsvc.specs.declared.inspection.Inspection.TheVariants as inspection
 use Rattle.varsvc.specs.declared.plan.Plan.{Plan}
-use Rattle.varsvc.specs.declared.plan.Plan.TheVariants.{Print, InputFault, DeviceFault, NoMemory}
+use Rattle.varsvc.specs.declared.plan.Plan.TheVariants.{Print, Stream, InputFault, DeviceFault, NoMemory}
+use Rattle.varsvc.specs.declared.streamed.Streamed.{Streamed}
+use Rattle.varsvc.specs.declared.streamed.Streamed.TheVariants as streamed
 use Rattle.varsvc.specs.FaultLines.{device_line, image_line, input_line, memory_line}
-use Rattle.varsvc.specs.Runs.{lacks_any}
+use Rattle.varsvc.specs.Runs.{lacks_any, report_of}
+use Rattle.varsvc.specs.Values.{AnswerHasValues}
 
--- the status of a plan, and the text that it prints
+-- the region that a content is, and its listing
+abbrev pub volume_region : List ℕ → Region
+volume_region volume = record { form = Authenticated; bytes = volume; first = headers_size; non_volatile = true }
+
+abbrev pub volume_listing : List ℕ → List ℕ
+volume_listing volume = listing_text (region_map (volume_region volume))
+
+-- what is printed of a content, by what was read of work area and spare
+abbrev pub content_text : Inspection → Kept → List ℕ → List ℕ
+content_text inspection.Listing kept content = volume_listing content
+content_text inspection.Check kept content = check_text (facts_of (volume_region content) kept.state kept.blank)
+
+-- the status of a session's report
+abbrev pub report_status : List Answered → ℕ
+report_status answered = if lacks_any answered then 8 else 0
+
+-- what is printed while it is written: its status, its text, and that its parts are values of their types
+abbrev pub streamed_status : Streamed → ℕ
+streamed_status (streamed.Report answered) = report_status answered
+streamed_status (streamed.Listing content) = 0
+
+abbrev pub streamed_text : Streamed → List ℕ
+streamed_text (streamed.Report answered) = report_of answered
+streamed_text (streamed.Listing content) = volume_listing content
+
+abbrev pub HasStreamedValues : Streamed → Type 0
+HasStreamedValues (streamed.Report answered) = All AnswerHasValues answered
+HasStreamedValues (streamed.Listing content) = Unit {0}
+
+-- the status of a plan, the text that it prints, and that its parts are values of their types
 abbrev pub status_of : Plan → ℕ
 status_of (Print status text) = status
+status_of (Stream streamed) = streamed_status streamed
 status_of InputFault = 6
 status_of DeviceFault = 7
 status_of NoMemory = 8
 
 abbrev pub text_of : Plan → List ℕ
 text_of (Print status text) = text
+text_of (Stream streamed) = streamed_text streamed
 text_of InputFault = input_line
 text_of DeviceFault = device_line
 text_of NoMemory = memory_line
 
--- the status of a session's report
-abbrev pub report_status : List Answered → ℕ
-report_status answered = if lacks_any answered then 8 else 0
+abbrev pub HasPlanValues : Plan → Type 0
+HasPlanValues (Print status text) = Unit {0}
+HasPlanValues (Stream streamed) = HasStreamedValues streamed
+HasPlanValues InputFault = Unit {0}
+HasPlanValues DeviceFault = Unit {0}
+HasPlanValues NoMemory = Unit {0}
+
+-- the status of a plan to print a text is none of a sink that failed
+abbrev pub IsPrintable : Plan → Type 0
+IsPrintable (Print status text) = status ≢ 5
+IsPrintable (Stream streamed) = Unit {0}
+IsPrintable InputFault = Unit {0}
+IsPrintable DeviceFault = Unit {0}
+IsPrintable NoMemory = Unit {0}
+
+-- a plan prints while it writes
+abbrev pub IsStreamed : Plan → Type 0
+IsStreamed plan = (streamed : Streamed) × (plan ≡ Stream streamed)
+
+-- what is printed while it is written comes to its status and text; or memory was short before its first byte, and that line is printed
+abbrev pub ComesTo : Streamed → ℕ → List ℕ → Type 0
+ComesTo streamed status text =
+    (HasStreamedValues streamed × (status ≡ streamed_status streamed) × (text ≡ streamed_text streamed)) ⊎ ((status ≡ 8) × (text ≡ memory_line))
+
+-- what a plan comes to
+abbrev pub IsOutcome : Plan → ℕ → List ℕ → Type 0
+IsOutcome (Print s t) status text = (status ≡ s) × (text ≡ t)
+IsOutcome (Stream streamed) status text = ComesTo streamed status text
+IsOutcome InputFault status text = (status ≡ 6) × (text ≡ input_line)
+IsOutcome DeviceFault status text = (status ≡ 7) × (text ≡ device_line)
+IsOutcome NoMemory status text = (status ≡ 8) × (text ≡ memory_line)
+
+-- a sink has gained the text that comes with a status, by what texts may come with which, and a front of one of them where it failed
+pub record Gains (comes : ℕ → List ℕ → Type 0) (status : ℕ) (old new : Option (List ℕ)) : Type 0 where
+  pub whole : status ≢ 5 → (text : List ℕ) × comes status text × Appends old new text
+  pub part : status ≡ 5 → (planned : ℕ) × (text : List ℕ) × comes planned text × AppendsPart old new text
 
 -- the plan prints this line with this status, or is out of memory
 abbrev pub PlansLine : ℕ → List ℕ → Plan → Type 0
 PlansLine status line (Print s text) = (s ≡ status) × (text ≡ line)
+PlansLine status line (Stream streamed) = ⊥
 PlansLine status line InputFault = ⊥
 PlansLine status line DeviceFault = ⊥
 PlansLine status line NoMemory = Unit {0}
@@ -35,6 +114,7 @@ PlansLine status line NoMemory = Unit {0}
 -- the plan prints what stands in a text in memory with this status, or memory was too short for that text
 abbrev pub PlansText : ℕ → Text → Plan → Type 0
 PlansText status held (Print s text) = (s ≡ status) × (held.lacks ≡ false) × (text ≡ held.bytes)
+PlansText status held (Stream streamed) = ⊥
 PlansText status held InputFault = ⊥
 PlansText status held DeviceFault = ⊥
 PlansText status held NoMemory = Unit {0}

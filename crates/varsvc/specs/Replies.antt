@@ -20,6 +20,7 @@ use Rattle.var_types.specs.declared.reply.SetReply.TheVariants as set
 use Rattle.report_text.specs.declared.status.Status.{Status}
 use Rattle.report_text.specs.declared.status.Status.TheVariants as status
 use Rattle.report_text.specs.declared.word.Word.TheVariants as word
+use Rattle.varsvc.specs.PolicyReplies.{policy_reply_text}
 use Rattle.report_text.specs.Rule.{rule_text}
 use Rattle.report_text.specs.Status.{status_text}
 use Rattle.report_text.specs.Word.{word_text}
@@ -84,6 +85,7 @@ unfoldable pub set_reply_text : SetReply → List ℕ
 set_reply_text set.Ok = spaced (status_text status.Success ∷ [])
 set_reply_text set.Same = spaced (status_text status.Success ∷ word_text word.Same ∷ [])
 set_reply_text (set.Refused reason) = reason_text reason
+set_reply_text set.Device = spaced (status_text status.DeviceError ∷ [])
 set_reply_text set.OutOfMemory = spaced (status_text status.NoMemory ∷ [])
 
 -- the reply to the end of the boot phase (UEFI 2.10, 7.4, ExitBootServices)
@@ -97,4 +99,5 @@ unfoldable pub reply_text : Reply → List ℕ
 reply_text (reply.Get r) = get_reply_text r
 reply_text (reply.Next r) = next_reply_text r
 reply_text (reply.Set r) = set_reply_text r
+reply_text (reply.Policy r) = policy_reply_text r
 reply_text (reply.Exit r) = exit_reply_text r

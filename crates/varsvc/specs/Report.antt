@@ -2,11 +2,11 @@ use Rattle.std.specs.Prelude.{ℕ, ◌+◌, List, [], ◌∷◌, ◌++◌, lengt
 use Rattle.script_text.specs.Texts.{call_text}
 use Rattle.var_types.specs.declared.answered.Answered.{Answered}
 use Rattle.var_types.specs.declared.answered.Route.{Route}
-use Rattle.var_types.specs.declared.answered.Route.TheVariants.{Plain}
+use Rattle.var_types.specs.declared.answered.Route.TheVariants as route
 use Rattle.var_types.specs.History.{Entry}
 use Rattle.var_types.specs.Session.{entry_of}
 use Rattle.var_types.specs.Step.{is_change}
-use Rattle.report_text.specs.declared.word.Word.{Word}
+use Rattle.var_types.specs.Texts.{spaced}
 use Rattle.report_text.specs.declared.word.Word.TheVariants as word
 use Rattle.report_text.specs.Line.{line_text}
 use Rattle.varsvc.specs.Replies.{reply_text}
@@ -25,13 +25,18 @@ unfoldable pub history_lines : List Entry → List ℕ
 history_lines history =
     line_text (word_text word.History ∷ decimal (length history) ∷ []) ++ flat_map entry_line history
 
--- the word of a route
-abbrev pub route_word : Route → Word
-route_word Plain = word.Plain
+-- the route of a reply: `-` of the service itself, or its word and its numbers (this project's own)
+unfoldable pub route_text : Route → List ℕ
+route_text route.Plain = spaced (word_text word.Plain ∷ [])
+route_text route.Cache = spaced (word_text word.Cache ∷ [])
+route_text (route.Merged made held) = spaced (word_text word.Merged ∷ decimal made ∷ decimal held ∷ [])
+route_text (route.Writer holder) = spaced (word_text word.Writer ∷ decimal holder ∷ [])
+route_text route.Flushed = spaced (word_text word.Flushed ∷ [])
+route_text (route.Deferred holder) = spaced (word_text word.Deferred ∷ decimal holder ∷ [])
 
 -- the line of an answered call: its index, its place, its route and the reply (this project's own)
 unfoldable pub answer_line : ℕ → Answered → List ℕ
-answer_line index a = line_text (decimal index ∷ decimal a.place ∷ word_text (route_word a.route) ∷ reply_text a.reply ∷ [])
+answer_line index a = line_text (decimal index ∷ decimal a.place ∷ route_text a.route ∷ reply_text a.reply ∷ [])
 
 -- a text for each answered call with its index, the first of which has this one
 abbrev pub indexed : (ℕ → Answered → List ℕ) → ℕ → List Answered → List ℕ

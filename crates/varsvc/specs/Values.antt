@@ -1,6 +1,8 @@
 -- The parts of replies are values of their types, as those of a program always are.
 use Rattle.std.specs.Prelude.{◌^◌, ◌<◌}
 use Rattle.var_types.specs.declared.answered.Answered.{Answered}
+use Rattle.var_types.specs.declared.answered.Route.{Route}
+use Rattle.var_types.specs.declared.answered.Route.TheVariants as route
 use Rattle.var_types.specs.declared.name.NameFault.{NameFault}
 use Rattle.var_types.specs.declared.name.NameFault.TheVariants as fault
 use Rattle.var_types.specs.declared.set_reason.SetReason.{SetReason}
@@ -17,6 +19,7 @@ use Rattle.var_types.specs.declared.reply.SetReply.{SetReply}
 use Rattle.var_types.specs.declared.reply.SetReply.TheVariants as set
 use Rattle.var_types.specs.Guid.{IsGuid}
 use Rattle.var_types.specs.Values.{AreBytes, AreUnits}
+use Rattle.varsvc.specs.PolicyValues.{HasValuesOfPolicy}
 
 -- the parts of a reply are values of their types, as those of a program always are
 abbrev pub HasValuesOfGet : GetReply → Type 0
@@ -61,6 +64,7 @@ abbrev pub HasValuesOfSet : SetReply → Type 0
 HasValuesOfSet set.Ok = Unit {0}
 HasValuesOfSet set.Same = Unit {0}
 HasValuesOfSet (set.Refused reason) = HasValuesOfReason reason
+HasValuesOfSet set.Device = Unit {0}
 HasValuesOfSet set.OutOfMemory = Unit {0}
 
 abbrev pub HasValuesOfExit : ExitReply → Type 0
@@ -72,8 +76,18 @@ abbrev pub HasValues : Reply → Type 0
 HasValues (reply.Get r) = HasValuesOfGet r
 HasValues (reply.Next r) = HasValuesOfNext r
 HasValues (reply.Set r) = HasValuesOfSet r
+HasValues (reply.Policy r) = HasValuesOfPolicy r
 HasValues (reply.Exit r) = HasValuesOfExit r
 
--- the parts of an answered call's reply, and its place
+-- the numbers of a route are values of their types
+abbrev pub HasValuesOfRoute : Route → Type 0
+HasValuesOfRoute route.Plain = Unit {0}
+HasValuesOfRoute route.Cache = Unit {0}
+HasValuesOfRoute (route.Merged made held) = (made < 2 ^ 64) × (held < 2 ^ 64)
+HasValuesOfRoute (route.Writer holder) = holder < 2 ^ 64
+HasValuesOfRoute route.Flushed = Unit {0}
+HasValuesOfRoute (route.Deferred holder) = holder < 2 ^ 64
+
+-- the parts of an answered call's reply, its place and its route
 abbrev pub AnswerHasValues : Answered → Type 0
-AnswerHasValues a = HasValues a.reply × (a.place < 2 ^ 64)
+AnswerHasValues a = HasValues a.reply × (a.place < 2 ^ 64) × HasValuesOfRoute a.route

@@ -1,26 +1,28 @@
 //! What is done with an image alone, and what is to be printed of it.
-ghost use Rattle.std.specs.Prelude.{◌≡◌, ◌≢◌, true, length, take, IfSome, IsOk, List, Option, ℕ};
+ghost use Rattle.std.specs.Prelude.{◌≡◌, ◌≢◌, true, length, take, vec_len, IfSome, IsOk, List, Option, ℕ};
 ghost use Rattle.flash_dev.specs.Moments.{Stays};
 ghost use Rattle.flash_dev.specs.Rules.{IsKept};
 ghost use Rattle.flash_dev.specs.Formatting.{IsFormatLeft};
 ghost use Rattle.flash_dev.specs.Geometry.{geometry_of};
-ghost use Rattle.report_text.specs.Listing.{listing_text};
 ghost use Rattle.var_types.specs.Layout.{headers_size, image_size, volume_size};
-ghost use Rattle.var_types.specs.Record.{Authenticated};
-ghost use Rattle.var_types.specs.Region.{region_map};
+ghost use Rattle.report_text.specs.Check.{check_text};
+ghost use Rattle.varsvc.specs.declared.inspection.Inspection.TheVariants.{Check};
 ghost use Rattle.varsvc.specs.FaultLines.{foreign_line, image_line};
 ghost use Rattle.varsvc.specs.Images.{IsRead};
-ghost use Rattle.varsvc.specs.Outcome.{FailsAt, IsText, LeavesImage, format_row, list_row};
-ghost use Rattle.varsvc.specs.Plan.{PlansFault, PlansLine, status_of, text_of};
+ghost use Rattle.varsvc.specs.Outcome.{FailsAt, IsText, LeavesImage, format_row, inspection_row};
+ghost use Rattle.varsvc.specs.Plan.{IsStreamed, content_text, PlansFault, PlansLine, status_of, text_of};
 
+use crate::content::Content;
 use crate::fault_lines::{write_foreign_line, write_image_line};
 use crate::input::zeros;
+use crate::inspection::Inspection;
 use crate::plan::{Plan, plan_text};
+use crate::streamed::Streamed;
 use flash_dev::{
     Flash, HEADERS_BYTES, IMAGE_BYTES, ImageFault, VOLUME_BYTES, format_image, geometry_of,
 };
 use ftw_mount::{Kept, read_kept};
-use report_text::write_listing;
+use report_text::{CheckFacts, check_facts, write_check};
 use std::alloc::Global;
 use var_region::Region;
 use var_types::{Bytes, TextBuffer};
@@ -42,18 +44,6 @@ fn plan_fault(alloc: Global, fault: ImageFault) -> Plan
     }
 }
 
-fn plan_listing(alloc: Global, volume: &[u8]) -> Plan
-    requires { length volume.now ≡ volume_size }
-    ensures { PlansLine 0 (listing_text (region_map (record { form = Authenticated; bytes = volume.now; first = headers_size; non_volatile = true }))) result }
-{
-    let region = Region::over(volume, HEADERS_BYTES as u32, true);
-    let mut text = TextBuffer::new(alloc);
-    match write_listing(alloc, &region, &mut text) {
-        Ok(()) => plan_text(0, text),
-        Err(_) => Plan::NoMemory,
-    }
-}
-
 fn plan_foreign(alloc: Global) -> Plan
     ensures { PlansLine 4 foreign_line result }
 {
@@ -62,65 +52,88 @@ fn plan_foreign(alloc: Global) -> Plan
     plan_text(4, text)
 }
 
-// Plans the listing of a content that is accepted, unless it is that of foreign work.
-fn plan_kept(alloc: Global, kept: Kept, content: &[u8]) -> Plan
-    requires content { length content.now ≡ volume_size }
-    requires accepted { IsOk (geometry_of (take headers_size content.now)) }
-    ensures text { (told : Option (List ℕ)) → IfSome told (IsRead kept content.now) → IsText (list_row told image_size) (status_of result) (text_of result) }
+// Plans the check report of a content.
+fn plan_checked(alloc: Global, kept: Kept, content: &Content) -> Plan
+    ensures { PlansLine 0 (content_text Check kept content.now) result }
+{
+    let region = Region::over(content.as_slice(), HEADERS_BYTES as u32, true);
+    match check_facts(alloc, &region, kept.state, kept.blank) {
+        Ok(facts) => plan_facts(alloc, &facts),
+        Err(_) => Plan::NoMemory,
+    }
+}
+
+fn plan_facts(alloc: Global, facts: &CheckFacts) -> Plan
+    ensures { PlansLine 0 (check_text facts.now) result }
+{
+    let mut text = TextBuffer::new(alloc);
+    write_check(facts, &mut text);
+    plan_text(0, text)
+}
+
+// Plans what is printed of a content that is accepted, unless it is that of foreign work.
+fn plan_kept(alloc: Global, what: Inspection, kept: Kept, content: Content) -> Plan
+    requires accepted { IsOk (geometry_of (take headers_size content)) }
+    ensures text { (told : Option (List ℕ)) → IfSome told (IsRead kept content) → IsText (inspection_row what told image_size) (status_of result) (text_of result) }
     ensures device { status_of result ≢ 7 }
 {
     if kept.is_foreign() {
         return plan_foreign(alloc);
     }
-    plan_listing(alloc, content)
+    match what {
+        Inspection::Listing => Plan::Stream {
+            streamed: Streamed::Listing { content },
+        },
+        Inspection::Check => plan_checked(alloc, kept, &content),
+    }
 }
 
-// Plans the listing of what was read of an image, or the refusal of it.
-fn plan_content(alloc: Global, kept: Kept, content: &[u8]) -> Plan
-    requires { length content.now ≡ volume_size }
-    ensures text { (told : Option (List ℕ)) → IfSome told (IsRead kept content.now) → IsText (list_row told image_size) (status_of result) (text_of result) }
+// Plans what is printed of what was read of an image, or the refusal of it.
+fn plan_content(alloc: Global, what: Inspection, kept: Kept, content: Content) -> Plan
+    ensures text { (told : Option (List ℕ)) → IfSome told (IsRead kept content) → IsText (inspection_row what told image_size) (status_of result) (text_of result) }
     ensures device { status_of result ≢ 7 }
 {
-    match geometry_of(&content[..HEADERS_BYTES]) {
-        Ok(_) => plan_kept(alloc, kept, content),
+    match geometry_of(&content.as_slice()[..HEADERS_BYTES]) {
+        Ok(_) => plan_kept(alloc, what, kept, content),
         Err(fault) => plan_fault(alloc, fault),
     }
 }
 
-// Reads what an image of the right length keeps, and plans its listing.
-fn plan_read<F: Flash>(alloc: Global, flash: &mut F, content: &mut [u8]) -> Plan
+// Reads what an image of the right length keeps, and plans what is printed of it.
+fn plan_read<F: Flash>(alloc: Global, what: Inspection, flash: &mut F, content: Vec<u8>) -> Plan
     requires size { F.size flash.old ≡ image_size }
-    requires content { length content.old ≡ volume_size }
-    ensures text { IsText (list_row (F.holds flash.old) (F.size flash.old)) (status_of result) (text_of result) }
+    requires content { vec_len content ≡ volume_size }
+    ensures text { IsText (inspection_row what (F.holds flash.old) (F.size flash.old)) (status_of result) (text_of result) }
     ensures cause { FailsAt 7 (status_of result) (F.fault_count flash.old) (F.fault_count flash.new) }
     ensures kept { F.holds flash.new ≡ F.holds flash.old }
     ensures at_any_moment { Stays IsKept F.moment F.left_since F.holds flash.old flash.new }
     ensures same_size { F.size flash.new ≡ F.size flash.old }
 {
-    match read_kept(flash, content) {
-        Ok(kept) => plan_content(alloc, kept, content),
+    let mut content = content;
+    match read_kept(flash, &mut content) {
+        Ok(kept) => plan_content(alloc, what, kept, Content::new(content)),
         Err(_) => Plan::DeviceFault,
     }
 }
 
-// Plans the listing of an image of the right length, where there is memory for what it keeps.
-fn plan_image<F: Flash>(alloc: Global, flash: &mut F) -> Plan
+// Plans what is printed of an image of the right length, where there is memory for what it keeps.
+fn plan_image<F: Flash>(alloc: Global, what: Inspection, flash: &mut F) -> Plan
     requires { F.size flash.old ≡ image_size }
-    ensures text { IsText (list_row (F.holds flash.old) (F.size flash.old)) (status_of result) (text_of result) }
+    ensures text { IsText (inspection_row what (F.holds flash.old) (F.size flash.old)) (status_of result) (text_of result) }
     ensures cause { FailsAt 7 (status_of result) (F.fault_count flash.old) (F.fault_count flash.new) }
     ensures kept { F.holds flash.new ≡ F.holds flash.old }
     ensures at_any_moment { Stays IsKept F.moment F.left_since F.holds flash.old flash.new }
     ensures size { F.size flash.new ≡ F.size flash.old }
 {
     match zeros(alloc, VOLUME_BYTES) {
-        Ok(mut content) => plan_read(alloc, flash, &mut content),
+        Ok(content) => plan_read(alloc, what, flash, content),
         Err(_) => Plan::NoMemory,
     }
 }
 
-/// Lists the variables that an image keeps; its bytes stay. An image in the middle of a write is listed as it will be after a mount.
-pub fn plan_list<F: Flash>(alloc: Global, flash: &mut F) -> Plan
-    ensures text { IsText (list_row (F.holds flash.old) (F.size flash.old)) (status_of result) (text_of result) }
+/// Lists or checks what an image keeps; its bytes stay. An image in the middle of a write is taken as it will be after a mount.
+pub fn plan_inspection<F: Flash>(alloc: Global, what: Inspection, flash: &mut F) -> Plan
+    ensures text { IsText (inspection_row what (F.holds flash.old) (F.size flash.old)) (status_of result) (text_of result) }
     ensures cause { FailsAt 7 (status_of result) (F.fault_count flash.old) (F.fault_count flash.new) }
     ensures kept { F.holds flash.new ≡ F.holds flash.old }
     ensures at_any_moment { Stays IsKept F.moment F.left_since F.holds flash.old flash.new }
@@ -131,7 +144,7 @@ pub fn plan_list<F: Flash>(alloc: Global, flash: &mut F) -> Plan
         let want = IMAGE_BYTES;
         return plan_refused(alloc, ImageFault::ImageSize { have, want });
     }
-    plan_image(alloc, flash)
+    plan_image(alloc, what, flash)
 }
 
 /// Leaves an image without variables, of which nothing is printed.
@@ -140,6 +153,7 @@ pub fn plan_format<F: Flash>(alloc: Global, flash: &mut F) -> Plan
     ensures cause { FailsAt 7 (status_of result) (F.fault_count flash.old) (F.fault_count flash.new) }
     ensures leaves { LeavesImage (format_row (F.size flash.old)) (status_of result) (F.size flash.old) (F.holds flash.old) (F.holds flash.new) }
     ensures at_any_moment { Stays IsFormatLeft F.moment F.left_since F.holds flash.old flash.new }
+    ensures unstreamed { ¬ IsStreamed result }
     ensures size { F.size flash.new ≡ F.size flash.old }
 {
     match format_image(flash) {

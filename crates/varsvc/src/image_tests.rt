@@ -232,3 +232,170 @@ fn a_failed_write_decides_the_status(rt: HostRuntime) -> Result<(), Fail> {
     }
     Ok(())
 }
+
+// Parts of an image, what is printed of work area and spare, and what of its content.
+type Checked<'a> = (&'a [Part<'a>], &'a str, &'a str);
+
+const NEW: &str = "work unmade\nspare blank\n";
+
+const USED: &str = "variables 1 used 84 room 57244\ntail clean\n";
+
+const UNUSED: &str = "variables 0 used 0 room 57244\ntail clean\n";
+
+const CHECKED: [(Checked, &str); 13] = [
+    (
+        (
+            &[],
+            NEW,
+            "records 0 added 0 transition 0 deleted 0 other 0\n",
+        ),
+        UNUSED,
+    ),
+    // a start mark alone
+    (
+        (
+            &[(100, &[0xaa, 0x55])],
+            NEW,
+            "records 1 added 0 transition 0 deleted 0 other 1\n",
+        ),
+        UNUSED,
+    ),
+    (
+        (
+            &[(100, &RECORD)],
+            NEW,
+            "records 1 added 1 transition 0 deleted 0 other 0\n",
+        ),
+        USED,
+    ),
+    // each state byte of a deleted record, and that of one in transition
+    (
+        (
+            &[(100, &RECORD), (102, &[0x3d])],
+            NEW,
+            "records 1 added 0 transition 0 deleted 1 other 0\n",
+        ),
+        UNUSED,
+    ),
+    (
+        (
+            &[(100, &RECORD), (102, &[0x3c])],
+            NEW,
+            "records 1 added 0 transition 0 deleted 1 other 0\n",
+        ),
+        UNUSED,
+    ),
+    (
+        (
+            &[(100, &RECORD), (102, &[0x3e])],
+            NEW,
+            "records 1 added 0 transition 1 deleted 0 other 0\n",
+        ),
+        USED,
+    ),
+    // two of a key, and a volatile one
+    (
+        (
+            &[(100, &RECORD), (184, &RECORD)],
+            NEW,
+            "records 2 added 2 transition 0 deleted 0 other 0\n",
+        ),
+        USED,
+    ),
+    (
+        (
+            &[(100, &RECORD), (184, &RECORD), (188, &[6])],
+            NEW,
+            "records 2 added 1 transition 0 deleted 0 other 1\n",
+        ),
+        USED,
+    ),
+    // a name of an odd size, behind whose record the old bytes are left
+    (
+        (
+            &[(100, &RECORD), (136, &[5])],
+            NEW,
+            "records 1 added 0 transition 0 deleted 0 other 1\n",
+        ),
+        "variables 0 used 0 room 57244\ntail dirty\n",
+    ),
+    (
+        (
+            &[(100, &RECORD), (61_440, &MARK)],
+            "work clean 0\nspare blank\n",
+            "records 1 added 1 transition 0 deleted 0 other 0\n",
+        ),
+        USED,
+    ),
+    (
+        (
+            &[(100, &RECORD), (61_440, &PENDING)],
+            "work pending 0\nspare blank\n",
+            "records 1 added 1 transition 0 deleted 0 other 0\n",
+        ),
+        USED,
+    ),
+    (
+        (
+            &[(61_440, &MARK), (131_071, &[0])],
+            "work clean 0\nspare used\n",
+            "records 0 added 0 transition 0 deleted 0 other 0\n",
+        ),
+        UNUSED,
+    ),
+    // the spare's content counts
+    (
+        (
+            &[
+                (0, &[0; 100]),
+                (61_440, &PENDING),
+                (65_536, &HEADERS),
+                (65_636, &RECORD),
+            ],
+            "work pending 0\nspare used\n",
+            "records 1 added 1 transition 0 deleted 0 other 0\n",
+        ),
+        USED,
+    ),
+];
+
+#[test]
+fn images_are_checked(rt: HostRuntime) -> Result<(), Fail> {
+    let alloc = rt.alloc();
+    for ((parts, state, records), variables) in CHECKED {
+        let image = image_of(alloc, parts)?;
+        let left = call(alloc, "check", image, &[], &[])?;
+        assert_eq!(rt; left.status, 0);
+        let mut want = Vec::new(alloc);
+        for text in [
+            "image ok\nstore authenticated\n",
+            state,
+            records,
+            variables,
+            "end\n",
+        ] {
+            want.extend_from_slice(text.as_bytes())?;
+        }
+        assert_eq!(rt; left.text.as_slice(), want.as_slice(), "{records}");
+    }
+    Ok(())
+}
+
+#[test]
+fn a_check_is_refused_as_a_listing(rt: HostRuntime) -> Result<(), Fail> {
+    let alloc = rt.alloc();
+    let cases: [(&[Part], &[u32], u8, &[u8]); 3] = [
+        (&[(40, &[0])], &[], 4, b"image volume 40\n"),
+        (&[(131_071, &[0])], &[], 4, b"image foreign-work\n"),
+        (&[], &[0], 7, b"device fault\n"),
+    ];
+    for (parts, fails, status, line) in cases {
+        for verb in ["list", "check"] {
+            let image = image_of(alloc, parts)?;
+            let left = call(alloc, verb, image, fails, &[])?;
+            assert_eq!(rt; left.status, status, "{verb}");
+            assert_eq!(rt; left.text.as_slice(), line, "{verb}");
+        }
+    }
+    Ok(())
+}

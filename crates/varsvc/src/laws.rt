@@ -1,7 +1,9 @@
 //! Laws of the report, of images and of the table of verbs: each is the contract of a function that does nothing.
 ghost use Rattle.std.specs.Prelude.{◌≡◌, []};
 ghost use Rattle.flash_dev.specs.Blank.{blank_image};
-ghost use Rattle.var_types.specs.Kept.{kept};
+ghost use Rattle.var_types.specs.Census.{census_of};
+ghost use Rattle.var_types.specs.Kept.{content_region, kept};
+ghost use Rattle.varsvc.specs.Images.{nothing};
 ghost use Rattle.varsvc.specs.Outcome.{CallsAreJudged};
 ghost use Rattle.varsvc.specs.Runs.{OneTextOneSession};
 
@@ -15,7 +17,8 @@ pub fn calls_are_judged()
     ensures { CallsAreJudged }
 {}
 
-/// A blank image keeps no variable.
+/// A blank image keeps no variable, and has no record of any kind.
 pub fn blank_images_keep_nothing()
-    ensures { kept blank_image ≡ [] }
+    ensures variables { kept blank_image ≡ [] }
+    ensures census { census_of (content_region blank_image) ≡ nothing }
 {}

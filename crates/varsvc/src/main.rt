@@ -2,6 +2,7 @@
 #![tactic(auto)]
 
 mod asked_plan;
+mod content;
 mod fault_lines;
 mod image_file;
 mod image_name;
@@ -9,9 +10,13 @@ mod image_plan;
 #[cfg(test)]
 mod image_tests;
 mod input;
+mod inspection;
 mod laws;
 mod order;
+mod parse;
 mod plan;
+mod policy_replies;
+mod print;
 mod program;
 #[cfg(test)]
 mod program_tests;
@@ -20,7 +25,9 @@ mod replies;
 mod reply_tests;
 mod report;
 mod run_plan;
+mod runner;
 mod session;
+mod streamed;
 #[cfg(test)]
 mod tests;
 mod top;
@@ -33,6 +40,7 @@ pub use laws::{blank_images_keep_nothing, calls_are_judged, one_text_one_session
 pub use order::Order;
 use outside::{StdSink, StdSource};
 use plan::Plan;
+use print::print_plan;
 use program::run_on_files;
 use std::env::Env;
 use std::process::ExitCode;
@@ -56,7 +64,7 @@ fn run_process(rt: &HostRuntime) -> ExitCode {
     let mut out = StdSink::on(rt.stdout());
     let status = match words_of(rt) {
         Ok(words) => run_on_files(rt, rt.alloc(), &words, &mut script, &mut out),
-        Err(_) => top::print_plan(&Plan::NoMemory, &mut out),
+        Err(_) => print_plan(rt.alloc(), &Plan::NoMemory, &mut out),
     };
     ExitCode::from(status)
 }

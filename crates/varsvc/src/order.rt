@@ -9,6 +9,8 @@ pub enum Order {
     Run { image: ImageName },
     /// List the non-volatile variables of an image.
     List { image: ImageName },
+    /// Check an image: count what it keeps.
+    Check { image: ImageName },
     /// Leave an image without variables.
     Format { image: ImageName },
 }
@@ -21,7 +23,10 @@ impl Order {
         ensures { result.now ≡ image_of self.now }
     {
         match self {
-            Order::Run { image } | Order::List { image } | Order::Format { image } => image,
+            Order::Run { image }
+            | Order::List { image }
+            | Order::Check { image }
+            | Order::Format { image } => image,
         }
     }
 }

@@ -2,7 +2,8 @@
 use crate::image_file::make_image_file;
 use crate::order::Order;
 use crate::plan::Plan;
-use crate::top::{print_plan, varsvc};
+use crate::print::print_plan;
+use crate::top::varsvc;
 use crate::usage::UsageFault;
 use crate::words::read_words;
 use flash_dev::{FaultPlan, FileFlash, MemFlash, Torn};
@@ -34,7 +35,7 @@ where
 {
     match read_words(alloc, words) {
         Ok(order) => run_order(rt, alloc, words, &order, script, out),
-        Err(UsageFault::OutOfMemory) => print_plan(&Plan::NoMemory, out),
+        Err(UsageFault::OutOfMemory) => print_plan(alloc, &Plan::NoMemory, out),
         Err(_) => varsvc(alloc, words, script, no_flash(alloc), out).status,
     }
 }

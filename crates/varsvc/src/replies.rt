@@ -9,6 +9,7 @@ ghost use Rattle.var_types.specs.Values.{AreBytes, AreUnits};
 ghost use Rattle.varsvc.specs.Replies.{exit_reply_text, get_reply_text, next_reply_text, name_fault_text, reason_text, rule_status, set_reply_text, reply_text};
 ghost use Rattle.varsvc.specs.Values.{HasValues, HasValuesOfExit, HasValuesOfFault, HasValuesOfGet, HasValuesOfNext, HasValuesOfReason, HasValuesOfSet};
 
+use crate::policy_replies::write_policy_reply;
 use report_text::{Part, Status, Word, write_parts};
 use var_types::text::write_name;
 use var_types::{
@@ -114,14 +115,14 @@ fn rule_status(rule: Rule) -> Status
 }
 
 /// Puts a status and a reason without numbers.
-fn write_two<P: Put>(status: Status, reason: Word, out: &mut P)
+pub(crate) fn write_two<P: Put>(status: Status, reason: Word, out: &mut P)
     ensures { P.Puts out.old out.new (spaced (status_text status ∷ word_text reason ∷ [])) }
 {
     write_parts(&[Part::Status(status), Part::Word(reason)], out)
 }
 
 /// Puts a status, a reason, and a number.
-fn write_number_reason<P: Put>(status: Status, reason: Word, n: u64, out: &mut P)
+pub(crate) fn write_number_reason<P: Put>(status: Status, reason: Word, n: u64, out: &mut P)
     ensures { P.Puts out.old out.new (spaced (status_text status ∷ word_text reason ∷ decimal n ∷ [])) }
 {
     write_parts(
@@ -275,6 +276,7 @@ fn write_set_reply<P: Put>(reply: &SetReply, out: &mut P)
             out,
         ),
         SetReply::Refused(reason) => write_reason(*reason, out),
+        SetReply::Device => write_parts(&[Part::Status(Status::DeviceError)], out),
         SetReply::OutOfMemory => write_parts(&[Part::Status(Status::NoMemory)], out),
     }
 }
@@ -303,6 +305,7 @@ pub fn write_reply<P: Put>(reply: &Reply, out: &mut P)
         Reply::Get(reply) => write_get_reply(reply, out),
         Reply::Next(reply) => write_next_reply(reply, out),
         Reply::Set(reply) => write_set_reply(reply, out),
+        Reply::Policy(reply) => write_policy_reply(reply, out),
         Reply::Exit(reply) => write_exit_reply(*reply, out),
     }
 }

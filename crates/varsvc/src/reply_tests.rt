@@ -1,7 +1,11 @@
-//! The text of each reason for which a set is refused, and of the end of the boot phase.
+//! The text of each reason for which a set is refused, of the end of the boot phase, and of each route.
 use crate::replies::write_reply;
+use crate::report::write_route;
 use std::test::Fail;
-use var_types::{ExitReply, NameFault, Reply, Rule, SetReason, SetReply, Stamp, TextBuffer};
+use var_types::{
+    Bytes, EntryFault, ExitReply, NameFault, PolicyReason, PolicyReply, Reply, Route, Rule,
+    SetReason, SetReply, Stamp, TextBuffer,
+};
 
 const STORED: Stamp = Stamp {
     bytes: [0xEA, 0x07, 6, 1, 0x0F, 0, 0xFF, 0, 0, 0, 0, 0, 0, 0, 0, 0],
@@ -106,6 +110,67 @@ const EXITS: [(ExitReply, &str); 3] = [
     ),
 ];
 
+const ROUTES: [(Route, &str); 6] = [
+    (Route::Plain, "-"),
+    (Route::Cache, "cache"),
+    (Route::Merged { made: 12, held: 3 }, "merged 12 3"),
+    (Route::Writer { holder: 255 }, "writer 255"),
+    (Route::Flushed, "flushed"),
+    (Route::Deferred { holder: 8 }, "deferred 8"),
+];
+
+const POLICY_REASONS: [(PolicyReason, &str); 16] = [
+    (PolicyReason::Locked, "WRITE_PROTECTED locked"),
+    (
+        PolicyReason::Entry(EntryFault::Size),
+        "INVALID_PARAMETER entry size",
+    ),
+    (
+        PolicyReason::Entry(EntryFault::Version),
+        "INVALID_PARAMETER entry version",
+    ),
+    (
+        PolicyReason::Entry(EntryFault::LockType { value: 4 }),
+        "INVALID_PARAMETER entry lock-type 4",
+    ),
+    (
+        PolicyReason::Entry(EntryFault::NameForm),
+        "INVALID_PARAMETER entry name",
+    ),
+    (
+        PolicyReason::Entry(EntryFault::Offset),
+        "INVALID_PARAMETER entry offset",
+    ),
+    (
+        PolicyReason::Entry(EntryFault::Wildcards { count: 255 }),
+        "INVALID_PARAMETER entry wildcards 255",
+    ),
+    (
+        PolicyReason::Entry(EntryFault::MinAboveMax),
+        "INVALID_PARAMETER entry min-above-max",
+    ),
+    (PolicyReason::Entry(EntryFault::OutOfMemory), "NO_MEMORY"),
+    (
+        PolicyReason::Already { place: 3 },
+        "ALREADY_STARTED entry 3",
+    ),
+    (
+        PolicyReason::TableFull { entries: 1024 },
+        "OUT_OF_RESOURCES table 1024",
+    ),
+    (
+        PolicyReason::HistoryFull { made: 4 },
+        "OUT_OF_RESOURCES history 4",
+    ),
+    (PolicyReason::AlreadyOff, "ALREADY_STARTED off"),
+    (PolicyReason::NoEntry { entries: 0 }, "NOT_FOUND entries 0"),
+    (
+        PolicyReason::NoEntry { entries: 1024 },
+        "NOT_FOUND entries 1024",
+    ),
+    (PolicyReason::OutOfMemory, "NO_MEMORY"),
+];
+
 fn prints(rt: &HostRuntime, reply: &Reply, want: &str) -> Result<bool, Fail> {
     let mut text = TextBuffer::new(rt.alloc());
     write_reply(reply, &mut text);
@@ -122,8 +187,40 @@ fn replies_have_their_texts(rt: HostRuntime) -> Result<(), Fail> {
         let reply = Reply::Set(SetReply::Refused(SetReason::Denied { place: 3, rule }));
         assert!(rt; prints(&rt, &reply, want)?, "{want}");
     }
+    let failed = Reply::Set(SetReply::Device);
+    assert!(rt; prints(&rt, &failed, "DEVICE_ERROR")?);
     for (answer, want) in EXITS {
         assert!(rt; prints(&rt, &Reply::Exit(answer), want)?, "{want}");
+    }
+    Ok(())
+}
+
+#[test]
+fn routes_have_their_texts(rt: HostRuntime) -> Result<(), Fail> {
+    for (route, want) in ROUTES {
+        let mut text = TextBuffer::new(rt.alloc());
+        write_route(route, &mut text);
+        assert!(rt; text.finish()?.as_slice() == want.as_bytes(), "{want}");
+    }
+    Ok(())
+}
+
+#[test]
+fn replies_about_policies_have_their_texts(rt: HostRuntime) -> Result<(), Fail> {
+    for (reason, want) in POLICY_REASONS {
+        let reply = Reply::Policy(PolicyReply::Refused(reason));
+        assert!(rt; prints(&rt, &reply, want)?, "{want}");
+    }
+    let bytes = Bytes::copy(rt.alloc(), &[0, 0xFF])?;
+    let cases = [
+        (PolicyReply::Ok, "SUCCESS"),
+        (PolicyReply::On, "SUCCESS on"),
+        (PolicyReply::Off, "SUCCESS off"),
+        (PolicyReply::Entry(bytes), "SUCCESS 00ff"),
+        (PolicyReply::OutOfMemory, "NO_MEMORY"),
+    ];
+    for (reply, want) in cases {
+        assert!(rt; prints(&rt, &Reply::Policy(reply), want)?, "{want}");
     }
     Ok(())
 }

@@ -1,9 +1,8 @@
 ghost use Rattle.std.specs.Prelude.{◌≡◌, ◌^◌, ◌<◌, [], ◌∷◌, length, decimal, All};
-ghost use Rattle.report_text.specs.Word.{word_text};
 ghost use Rattle.var_types.specs.Session.{history_of, entry_of};
 ghost use Rattle.var_types.specs.Texts.{spaced};
-ghost use Rattle.varsvc.specs.Report.{change_lines, history_lines, route_word, answer_line, processor_lines, session_text, indexed};
-ghost use Rattle.varsvc.specs.Values.{AnswerHasValues};
+ghost use Rattle.varsvc.specs.Report.{change_lines, history_lines, route_text, answer_line, processor_lines, session_text, indexed};
+ghost use Rattle.varsvc.specs.Values.{AnswerHasValues, HasValuesOfRoute};
 
 use crate::replies::write_reply;
 use report_text::{Part, Word, write_line, write_parts};
@@ -49,22 +48,42 @@ fn write_history<P: Put>(answered: &[Answered], out: &mut P)
     write_changes(answered, out);
 }
 
-fn route_word(route: Route) -> Word
-    ensures { result ≡ route_word route }
+#[tactic(auto, unfolding(crate::specs::Report::route_text))]
+/// Puts the route of a reply.
+pub(crate) fn write_route<P: Put>(route: Route, out: &mut P)
+    ensures text { P.Puts out.old out.new (route_text route) }
+    ensures values { HasValuesOfRoute route }
 {
     match route {
-        Route::Plain => Word::Plain,
+        Route::Plain => write_parts(&[Part::Word(Word::Plain)], out),
+        Route::Cache => write_parts(&[Part::Word(Word::Cache)], out),
+        Route::Merged { made, held } => write_parts(
+            &[
+                Part::Word(Word::Merged),
+                Part::Number(made),
+                Part::Number(held),
+            ],
+            out,
+        ),
+        Route::Writer { holder } => {
+            write_parts(&[Part::Word(Word::Writer), Part::Number(holder)], out)
+        }
+        Route::Flushed => write_parts(&[Part::Word(Word::Flushed)], out),
+        Route::Deferred { holder } => {
+            write_parts(&[Part::Word(Word::Deferred), Part::Number(holder)], out)
+        }
     }
 }
 
 // Puts the front of an answered call's line: its index, its place and its route.
 fn write_answer_front<P: Put>(index: usize, place: u64, route: Route, out: &mut P)
-    ensures text { P.Puts out.old out.new (spaced (decimal index ∷ decimal place ∷ word_text (route_word route) ∷ [])) }
-    ensures value { place < 2 ^ 64 }
+    ensures text { P.Puts out.old out.new (spaced (decimal index ∷ decimal place ∷ route_text route ∷ [])) }
+    ensures place { place < 2 ^ 64 }
+    ensures route { HasValuesOfRoute route }
 {
-    let index = Part::Number(index as u64);
-    let route = Part::Word(route_word(route));
-    write_parts(&[index, Part::Number(place), route], out);
+    write_parts(&[Part::Number(index as u64), Part::Number(place)], out);
+    out.put(b" ");
+    write_route(route, out);
 }
 
 fn write_answer<P: Put>(index: usize, a: &Answered, out: &mut P)

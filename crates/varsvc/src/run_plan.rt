@@ -1,19 +1,21 @@
 //! The running of a script, and what is to be printed of it.
-ghost use Rattle.std.specs.Prelude.{◌≡◌, ◌≢◌, [], ◌∷◌, Some, IfSome};
+ghost use Rattle.std.specs.Prelude.{◌≡◌, ◌≢◌, ◌<◌, [], ◌∷◌, length, Some};
 ghost use Rattle.varsvc.specs.FaultLines.{script_line};
+ghost use Rattle.varsvc.specs.Input.{most_read};
 ghost use Rattle.varsvc.specs.Outcome.{FailsAt, IsText, ReadsInput, run_row};
-ghost use Rattle.varsvc.specs.Plan.{PlansLine, report_status, status_of, text_of};
-ghost use Rattle.varsvc.specs.RunPlan.{PlansCalls, PlansReport, PlansRun};
+ghost use Rattle.varsvc.specs.Plan.{HasPlanValues, PlansLine, status_of, text_of};
+ghost use Rattle.varsvc.specs.RunPlan.{PlansRun};
 
 use crate::fault_lines::write_script_line;
 use crate::input::{InputFault, read_input};
 use crate::plan::{Plan, plan_text};
-use crate::report::write_session;
-use crate::session::{any_lacks_memory, run_calls};
+use crate::runner::run_calls;
+use crate::session::Session;
+use crate::streamed::Streamed;
 use outside::Source;
 use script_text::{Script, ScriptFault, read_script};
 use std::alloc::Global;
-use var_types::{Answered, Call, TextBuffer};
+use var_types::{Call, TextBuffer};
 
 fn plan_refused(alloc: Global, fault: ScriptFault) -> Plan
     ensures { PlansLine 3 (script_line fault) result }
@@ -23,27 +25,19 @@ fn plan_refused(alloc: Global, fault: ScriptFault) -> Plan
     plan_text(3, text)
 }
 
-fn report_status(answered: &[Answered]) -> u8
-    ensures { result ≡ report_status answered.now }
-{
-    if any_lacks_memory(answered) { 8 } else { 0 }
-}
-
-fn plan_report(alloc: Global, answered: &[Answered]) -> Plan
-    ensures { PlansReport answered.now result }
-{
-    let mut text = TextBuffer::new(alloc);
-    write_session(answered, &mut text);
-    plan_text(report_status(answered), text)
-}
-
 // At least one change is allowed, so that the limit is none for an empty script.
-fn plan_calls(alloc: Global, calls: Vec<Call>) -> Option<Plan>
-    ensures { IfSome result (PlansCalls calls.items) }
+fn plan_calls(alloc: Global, calls: Vec<Call>) -> Plan
+    ensures { PlansRun calls.items result }
 {
     let limit = calls.len().max(1) as u64;
-    let answered = run_calls(alloc, calls, limit).ok()?;
-    Some(plan_report(alloc, &answered))
+    match run_calls(alloc, calls, limit) {
+        Ok(answered) => Plan::Stream {
+            streamed: Streamed::Report {
+                session: Session::new(answered),
+            },
+        },
+        Err(_) => Plan::NoMemory,
+    }
 }
 
 fn first_calls(alloc: Global, script: Script) -> Vec<Call>
@@ -59,16 +53,13 @@ fn first_calls(alloc: Global, script: Script) -> Vec<Call>
 fn plan_accepted(alloc: Global, script: Script) -> Plan
     ensures { (calls : _) → script ≡ calls ∷ [] → PlansRun calls result }
 {
-    let calls = first_calls(alloc, script);
-    match plan_calls(alloc, calls) {
-        Some(plan) => plan,
-        None => Plan::NoMemory,
-    }
+    plan_calls(alloc, first_calls(alloc, script))
 }
 
 fn plan_script(alloc: Global, input: &[u8]) -> Plan
-    ensures text { IsText (run_row (Some input.now)) (status_of result) (text_of result) }
+    ensures text { HasPlanValues result → IsText (run_row (Some input.now)) (status_of result) (text_of result) }
     ensures was_read { status_of result ≢ 6 }
+    ensures short { status_of result ≡ 0 → length input.now < most_read }
 {
     match read_script(alloc, input) {
         Ok(script) => plan_accepted(alloc, script),
@@ -79,7 +70,7 @@ fn plan_script(alloc: Global, input: &[u8]) -> Plan
 
 /// Reads a script to its end, runs it on one processor, and plans what is to be printed.
 pub fn plan_run<S: Source>(alloc: Global, source: &mut S) -> Plan
-    ensures text { IsText (run_row (S.left source.old)) (status_of result) (text_of result) }
+    ensures text { HasPlanValues result → IsText (run_row (S.left source.old)) (status_of result) (text_of result) }
     ensures cause { FailsAt 6 (status_of result) (S.fault_count source.old) (S.fault_count source.new) }
     ensures reads { ReadsInput (run_row (S.left source.old)) (status_of result) (S.left source.old) (S.left source.new) }
 {

@@ -100,7 +100,7 @@ fn scripts_are_run(rt: HostRuntime) -> Result<(), Fail> {
             b"history 2\n0 0 0 set 414e6bdd-e47b-47cc-b244-bb61020cf516 Z 0x00000006 01\n1 0 1 set 8be4df61-93ca-11d2-aa0d-00e098032b8c A 0x00000002 03\nprocessor 0 calls 8\n0 0 - SUCCESS\n1 1 - SUCCESS\n2 2 - SUCCESS 8be4df61-93ca-11d2-aa0d-00e098032b8c A\n3 2 - SUCCESS 414e6bdd-e47b-47cc-b244-bb61020cf516 Z\n4 2 - NOT_FOUND end\n5 2 - BUFFER_TOO_SMALL 4\n6 2 - INVALID_PARAMETER no-such\n7 2 - INVALID_PARAMETER attributes 0x00000002 0x00000006\nend\n",
         ),
         (b"# no call\n\n0 fly\n", 3, b"script line 3 verb\n"),
-        (b"0 lock", 3, b"script line 1 later\n"),
+        (b"1 lock", 3, b"script line 1 later\n"),
         (
             b"1 get 8be4df61-93ca-11d2-aa0d-00e098032b8c A 9\n",
             3,
@@ -210,6 +210,32 @@ fn failures_decide_the_status(rt: HostRuntime) -> Result<(), Fail> {
         let done = run(rt.alloc(), &call, room)?;
         assert_eq!(rt; done.0, status);
         assert_eq!(rt; done.1.as_slice(), text);
+    }
+    Ok(())
+}
+
+#[test]
+fn a_report_is_cut_at_a_failed_write(rt: HostRuntime) -> Result<(), Fail> {
+    let alloc = rt.alloc();
+    let set = "0 set 8be4df61-93ca-11d2-aa0d-00e098032b8c A 6 ";
+    let get = "0 get 8be4df61-93ca-11d2-aa0d-00e098032b8c A 33000\n";
+    let script = script_of(alloc, &[(set, 1), ("5a", 33_000), ("\n", 1), (get, 1)])?;
+    let mut call = Case {
+        words: &["run", "vars.fd"],
+        script: &script,
+        source_fails: &[],
+        sink_fails: &[],
+    };
+    let (status, whole) = run(alloc, &call, 2 * LONG_ROOM)?;
+    assert_eq!(rt; status, 0);
+    assert!(rt; whole.ends_with(b"5a\nend\n"));
+    let fails: [(&[u32], usize); 3] = [(&[0], 0), (&[1], 63_488), (&[2], 126_976)];
+    for (sink_fails, least) in fails {
+        call.sink_fails = sink_fails;
+        let (status, part) = run(alloc, &call, 2 * LONG_ROOM)?;
+        assert_eq!(rt; status, 5);
+        assert!(rt; whole.starts_with(&part));
+        assert!(rt; least <= part.len(), "{}", part.len());
     }
     Ok(())
 }

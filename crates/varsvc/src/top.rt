@@ -6,7 +6,7 @@ ghost use Rattle.varsvc.specs.Outcome.{FailsAt, Performs};
 ghost use Rattle.varsvc.specs.Plan.{status_of, text_of};
 
 use crate::asked_plan::plan_asked;
-use crate::plan::{Plan, status_of, text_of};
+use crate::print::print_plan;
 use flash_dev::Flash;
 use outside::{Sink, Source};
 use std::alloc::Global;
@@ -16,25 +16,6 @@ use std::alloc::Global;
 pub struct Done<F> {
     pub status: u8,
     pub image: Option<F>,
-}
-
-/// Prints a plan's text, and answers its status, or 5 where the sink fails. A text without bytes is not written.
-pub fn print_plan<K: Sink>(plan: &Plan, out: &mut K) -> u8
-    requires { status_of plan.now ≢ 5 }
-    ensures sink { FailsAt 5 result (K.fault_count out.old) (K.fault_count out.new) }
-    ensures status { result ≢ 5 → result ≡ status_of plan.now }
-    ensures wrote { result ≢ 5 → Appends (K.holds out.old) (K.holds out.new) (text_of plan.now) }
-    ensures part { result ≡ 5 → AppendsPart (K.holds out.old) (K.holds out.new) (text_of plan.now) }
-    ensures quiet { text_of plan.now ≡ [] → out.new ≡ out.old }
-{
-    let text = text_of(plan);
-    if text.is_empty() {
-        return status_of(plan);
-    }
-    match out.write(text) {
-        Ok(()) => status_of(plan),
-        Err(_) => 5,
-    }
 }
 
 // The words are read once, here; what they ask for is one line of the table of verbs.
@@ -51,7 +32,7 @@ fn perform<S: Source, K: Sink, F: Flash>(
 {
     let mut image = image;
     let plan = plan_asked(alloc, words, script, &mut image);
-    let status = print_plan(&plan, out);
+    let status = print_plan(alloc, &plan, out);
     Done {
         status,
         image: Some(image),

@@ -9,6 +9,7 @@ use crate::order::Order;
 pub enum Verb {
     Run,
     List,
+    Check,
     Format,
 }
 
@@ -19,6 +20,7 @@ pub fn verb_of(word: &String) -> Option<Verb>
     match word.as_str() {
         "run" => Some(Verb::Run),
         "list" => Some(Verb::List),
+        "check" => Some(Verb::Check),
         "format" => Some(Verb::Format),
         _ => None,
     }
@@ -31,6 +33,7 @@ pub fn order_with(verb: Verb, image: ImageName) -> Order
     match verb {
         Verb::Run => Order::Run { image },
         Verb::List => Order::List { image },
+        Verb::Check => Order::Check { image },
         Verb::Format => Order::Format { image },
     }
 }

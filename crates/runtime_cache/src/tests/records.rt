@@ -1,7 +1,7 @@
 //! Stores made of records, written byte by byte, and calls over them with buffers whose other bytes are watched.
-use crate::{get, next, region_in};
+use crate::{get, next};
 use std::alloc::{AllocError, Global};
-use var_region::Region;
+use var_region::{Region, region_in};
 use var_types::{GetAnswer, Guid, NextAnswer, Store};
 
 pub(crate) const ADDED: u8 = 0x3F;

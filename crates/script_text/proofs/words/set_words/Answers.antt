@@ -1,28 +1,32 @@
-use Rattle.std.proofs.Common.{ℕ, ◌<◌, ◌≤◌, true, length, List, [], ◌∷◌, get_or, map, Bor, Result, subst, arith}
-use Rattle.var_types.specs.declared.call.Call.{Call}
-use Rattle.script_text.specs.declared.line_fault.LineFault.{LineFault}
+use Rattle.std.proofs.Common.{◌≡◌, ℕ, List, ◌∷◌, Result, Ok, Err, sym, subst, ap, ◌∙◌}
+use Rattle.var_types.specs.declared.verdict.Verdict.{Verdict}
+use Rattle.script_text.specs.declared.line_reason.LineReason.{LineReason}
 use Rattle.script_text.specs.GivesLine.{GivesLine}
-use Rattle.script_text.specs.Words.{set_call, set_words, verdict_of}
+use Rattle.script_text.specs.Lines.{words_of}
+use Rattle.script_text.specs.Words.{◌>>=◌, last_verdict, set_call, set_words}
+use Rattle.script_text.proofs.WordCounts.{few_set_words}
 use Rattle.script_text.proofs.words.set_words.Goals as goal
 
--- five words are read as a set with a verdict
-with_verdict : (words : List (Bor (List ℕ))) (d : Bor (List ℕ)) (r : Result Call LineFault) → 5 ≤ length words → length words < 6
-    → GivesLine r (set_call (get_or words 0 d).now (get_or words 1 d).now (get_or words 2 d).now (get_or words 3 d).now (verdict_of (get_or words 4 d).now)) → GivesLine r (set_words (map (λ word. word.now) words))
-unfolding set_words
-with_verdict (guid ∷ name ∷ attributes ∷ bytes ∷ verdict ∷ []) d r low high h = h
-with_verdict (guid ∷ name ∷ attributes ∷ bytes ∷ verdict ∷ more ∷ rest) d r low high h = absurd (omega arith)
-with_verdict [] d r low high h = absurd (omega arith)
-with_verdict (a ∷ []) d r low high h = absurd (omega arith)
-with_verdict (a ∷ b ∷ []) d r low high h = absurd (omega arith)
-with_verdict (a ∷ b ∷ c ∷ []) d r low high h = absurd (omega arith)
-with_verdict (a ∷ b ∷ c ∷ e ∷ []) d r low high h = absurd (omega arith)
+pub returns-in_default : goal.returns-in_default
+returns-in_default c = few_set_words (words_of c.args.line.now) c.in_default.ensures
 
-pub returns-in-len5 : goal.returns-in-len5
-returns-in-len5 c =
-    let d : Bor (List ℕ) = record { ref_ptr = (0, 0); now = [] } in
-    let ws = c.args.words.now in
-    with_verdict ws d c.set_call-in-len5.result c.in-len5.len_at_least c.in-len5.len_below
-    (subst
-    (λ v. GivesLine c.set_call-in-len5.result
-    (set_call (get_or ws 0 d).now (get_or ws 1 d).now (get_or ws 2 d).now (get_or ws 3 d).now v))
-    c.verdict_of.ensures c.set_call-in-len5.ensures)
+-- what is read of four words and of those behind them
+with_verdict : (all rest : List (List ℕ)) (guid name attributes bytes : List ℕ) (verdict : Result (Result Verdict LineReason) LineReason)
+    → all ≡ guid ∷ name ∷ attributes ∷ bytes ∷ rest → verdict ≡ last_verdict rest
+    → set_words all ≡ (verdict >>= set_call guid name attributes bytes)
+unfolding set_words
+with_verdict all rest guid name attributes bytes verdict is read =
+    ap set_words is ∙ ap (λ (v : Result (Result Verdict LineReason) LineReason). v >>= set_call guid name attributes bytes) (sym read)
+
+pub returns-in-Ok : goal.returns-in-Ok
+returns-in-Ok c =
+    let words = c.in-Some.words in
+    subst (GivesLine c.set_call.result)
+    (sym
+    (with_verdict _ _ words.guid.now words.name.now words.attributes.now words.bytes.now (Ok c.in-Ok.verdict) c.in-Some.ensures c.in-Ok.ensures))
+    c.set_call.ensures
+
+pub returns-in-Err : goal.returns-in-Err
+returns-in-Err c =
+    let words = c.in-Some.words in
+    with_verdict _ _ words.guid.now words.name.now words.attributes.now words.bytes.now (Err c.in-Err.reason) c.in-Some.ensures c.in-Err.ensures

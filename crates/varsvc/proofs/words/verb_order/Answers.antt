@@ -12,13 +12,17 @@ first_by_bytes words found h = position-map is_dashed (string_bytes {Z = Global}
 pub returns-in-Some : goal.returns-in-Some
 unfolding verb_order
 returns-in-Some c =
-    let words = c.args.words.now in
+    let words = c.args.rest.now in
     ap (dashed_order c.args.verb (map (string_bytes {Z = Global}) words)) (first_by_bytes words c.first_dashed.result c.first_dashed.ensures.position ∙ c.in-Some.is)
 
 pub returns-in-None : goal.returns-in-None
 unfolding verb_order
 returns-in-None c =
-    let words = c.args.words.now in
+    let words = c.args.rest.now in
     subst (GivesOrder c.image_order.result)
     (sym (ap (dashed_order c.args.verb (map (string_bytes {Z = Global}) words)) (first_by_bytes words c.first_dashed.result c.first_dashed.ensures.position ∙ c.in-None.is)))
     c.image_order.ensures
+
+pub image_order-requires-clause-undashed : goal.image_order-requires-clause-undashed
+image_order-requires-clause-undashed c =
+    first_by_bytes c.args.rest.now c.first_dashed.result c.first_dashed.ensures.position ∙ c.in-None.is

@@ -1,11 +1,11 @@
-use Rattle.std.proofs.Common.{◌≤◌, ap, subst, sym, refl, ◌∙◌}
+use Rattle.std.proofs.Common.{◌≤◌, ap, subst, sym, ◌∙◌}
 use Rattle.std.specs.BTreeMap.{is_at}
 use Rattle.std.specs.Map.{lookup}
 use Rattle.std.specs.Option.{option_copied}
 use Rattle.std.specs.Prelude.{Option, IfSome}
-use Rattle.svc_plain.proofs.Rooms.{all_within, IsTotalOf-rest}
-use Rattle.svc_plain.proofs.Undenied.{undenied}
-use Rattle.svc_plain.specs.RoomTotals.{total_of}
+use Rattle.set_rules.proofs.Rooms.{all_within, IsTotalOf-rest}
+use Rattle.policy_table.specs.PolicyState.{policies_of}
+use Rattle.set_rules.specs.RoomTotals.{total_of}
 use Rattle.var_types.specs.Attributes.{store_of}
 use Rattle.var_types.specs.Key.{key_cmp}
 use Rattle.var_types.specs.Room.{room_of}
@@ -28,7 +28,8 @@ returns c =
       rest =
           IsTotalOf-rest c.self.inside.totals c.totals_without.result c.args.key.now (option_copied c.get-found.result)
           c.self.inside.variables.entries c.args.self.now.variables c.self.invariant c.totals_without.ensures c.get-found.ensures.value entries;
-      policy = λ question. undenied c.args.self.now question (sym (ap (λ (s : State). s.policies) c.self.view_is));
+      variables = entries;
+      policies = ap policies_of (sym c.self.view_is);
       runtime = ap (λ (s : State). s.runtime) c.self.view_is;
       made = ap (λ (s : State). s.made) c.self.view_is;
       limit = ap (λ (s : State). s.limit) c.self.view_is;

@@ -1,4 +1,4 @@
-use Rattle.svc_plain.proofs.Rooms.{all_short}
+use Rattle.set_rules.proofs.Rooms.{all_short}
 use Rattle.svc_plain.proofs.plain.Plain.get_visible.Goals as goal
 
 pub get_stored-requires : goal.get_stored-requires

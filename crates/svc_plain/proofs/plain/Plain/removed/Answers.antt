@@ -1,8 +1,8 @@
 use Rattle.std.proofs.Common.{◌≤◌, List, subst, sym, refl}
 use Rattle.std.specs.Option.{option_copied}
 use Rattle.std.specs.Prelude.{Option, IfSome}
-use Rattle.svc_plain.proofs.Rooms.{all_within, IsTotalOf-rest}
-use Rattle.svc_plain.specs.RoomTotals.{IsTotalOf, total_of}
+use Rattle.set_rules.proofs.Rooms.{all_within, IsTotalOf-rest}
+use Rattle.set_rules.specs.RoomTotals.{IsTotalOf, total_of}
 use Rattle.var_types.specs.Attributes.{store_of}
 use Rattle.var_types.specs.Room.{room_of}
 use Rattle.var_types.specs.declared.key.Key.{Key}

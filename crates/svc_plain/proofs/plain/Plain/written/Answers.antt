@@ -1,12 +1,12 @@
-use Rattle.std.proofs.Common.{◌≡◌, ◌≤◌, List, ap, subst, sym, refl, ◌∙◌}
-use Rattle.std.specs.BTreeMap.{is_at, insert_entry}
-use Rattle.std.specs.Map.{lookup, remove_entry}
+use Rattle.std.proofs.Common.{◌≤◌, List, ap, subst, sym, refl, ◌∙◌}
+use Rattle.std.specs.BTreeMap.{is_at}
+use Rattle.std.specs.Map.{lookup}
 use Rattle.std.specs.Option.{option_copied}
 use Rattle.std.specs.Prelude.{Option, IfSome}
 use Rattle.svc_plain.proofs.OnOks.{on_ok}
-use Rattle.svc_plain.proofs.Rooms.{all_within, counts_found, found_put, IsTotalOf-found, IsTotalOf-rest}
-use Rattle.svc_plain.specs.RoomTotals.{HasRoom, IsTotalOf, total_of}
-use Rattle.svc_plain.specs.Written.{IsWritten, written}
+use Rattle.set_rules.proofs.Rooms.{all_within, counts_found, found_put, IsTotalOf-found, IsTotalOf-rest}
+use Rattle.set_rules.specs.RoomTotals.{HasRoom, total_of}
+use Rattle.svc_plain.specs.Written.{written}
 use Rattle.var_types.specs.Attributes.{store_of}
 use Rattle.var_types.specs.Key.{key_cmp}
 use Rattle.var_types.specs.Room.{room_of}

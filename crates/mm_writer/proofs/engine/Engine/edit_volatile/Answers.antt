@@ -1,0 +1,89 @@
+use Rattle.std.proofs.Common.{◌≡◌, None, IfSome, sym, subst, refl}
+use Rattle.mm_writer.proofs.Able.{can_edit}
+use Rattle.mm_writer.proofs.Answered.{answered_ok, grown_volatile, kept_edited, variables_next}
+use Rattle.mm_writer.proofs.Ended.{not_non_volatile}
+use Rattle.mm_writer.proofs.KeptBy.{kept_volatile}
+use Rattle.mm_writer.proofs.Sides.{means_now}
+use Rattle.mm_writer.specs.Edit.{MayEdit, edited}
+use Rattle.mm_writer.specs.Engine.{side_by}
+use Rattle.mm_writer.specs.Outcome.{IsAnswered, IsKeptBy}
+use Rattle.mm_writer.specs.Side.{Side, state_of}
+use Rattle.set_rules.specs.RoomTotals.{IsTotalOf}
+use Rattle.var_types.specs.declared.call.Call.TheVariants.{Set as SetCalled}
+use Rattle.var_types.specs.declared.reply.Reply.TheVariants.{Set as SetReplied}
+use Rattle.var_types.specs.declared.reply.SetReply.TheVariants.{Ok as Changed}
+use Rattle.var_types.specs.declared.store.Store.TheVariants.{Volatile}
+use Rattle.var_types.specs.Set.{changed, set_step}
+use Rattle.var_types.specs.Stores.{HaveSizes}
+use Rattle.mm_writer.proofs.engine.Engine.edit_volatile.Goals as goal
+
+pub change_volatile-requires-clause-can : goal.change_volatile-requires-clause-can
+change_volatile-requires-clause-can g c =
+    let e = c.self.inside in
+    let side : Side = side_by e.opened.value.1.0 e.store.1.0 e.volatile e.books in
+    let may = subst (λ v. MayEdit (state_of v.1.1) Volatile c.args.edit.now) (sym c.self.view_is) c.requires.may in
+    let sizes = subst (λ v. HaveSizes v.1.1.stores) (sym c.self.view_is) c.view.ensures.sizes in
+    can_edit side.stores (state_of side) c.self.invariant.consistent.sound.ordered (means_now side c.self.invariant.consistent) sizes Volatile
+    c.args.edit.now may
+
+pub invariant_of-self : goal.invariant_of-self
+invariant_of-self g c =
+    let e = c.self.inside in
+    let side : Side = side_by e.opened.value.1.0 e.store.1.0 e.volatile e.books in
+    let next : Side = side_by e.opened.value.1.0 e.store.1.0 c.change_volatile.new.volatile c.change_volatile.new.books in
+    let edit = c.args.edit.now in
+    let call = c.args.call.now in
+    let may = subst (λ v. MayEdit (state_of v.1.1) Volatile edit) (sym c.self.view_is) c.requires.may in
+    let is =
+    subst (λ v. set_step (state_of v.1.1) call ≡ (Changed, changed (state_of v.1.1) (edited edit (state_of v.1.1).variables))) (sym c.self.view_is)
+    c.requires.step in
+    let rooms =
+    subst (λ v. IsTotalOf c.totals_after-totals.result (edited edit (state_of v.1.1).variables)) (sym c.self.view_is)
+    (c.totals_after-totals.ensures (state_of c.args.self.now.1.1) c.view.ensures.stands c.requires.may) in
+    let done = c.in-Ok.ensures.done in
+    kept_edited side next e.totals c.totals_after-totals.result e.policies c.self.invariant Volatile edit c.change_volatile.new.volatile
+    c.args.caller.processor c.args.caller.index call e.books c.change_volatile.new.books may is done.edited.map refl refl done.enters
+    (grown_volatile e.opened.value.1.0 e.store.1.0 e.volatile c.change_volatile.new.volatile _ e.books c.change_volatile.new.books done.enters)
+    c.agreement_grows_with_the_ranges.ensures.grows c.agreement_grows_with_the_ranges.ensures.same rooms
+
+pub returns-in-Ok-clause-answered : goal.returns-in-Ok-clause-answered
+returns-in-Ok-clause-answered g c =
+    let e = c.self.inside in
+    let side : Side = side_by e.opened.value.1.0 e.store.1.0 e.volatile e.books in
+    let next : Side = side_by e.opened.value.1.0 e.store.1.0 c.change_volatile.new.volatile c.change_volatile.new.books in
+    let edit = c.args.edit.now in
+    let call = c.args.call.now in
+    let may = subst (λ v. MayEdit (state_of v.1.1) Volatile edit) (sym c.self.view_is) c.requires.may in
+    let is =
+    subst (λ v. set_step (state_of v.1.1) call ≡ (Changed, changed (state_of v.1.1) (edited edit (state_of v.1.1).variables))) (sym c.self.view_is)
+    c.requires.step in
+    let done = c.in-Ok.ensures.done in
+    subst (λ v. IsAnswered v.1.1 next c.args.caller.processor c.args.caller.index (SetCalled call) (SetReplied Changed)) c.self.view_is
+    (answered_ok side next e.totals c.totals_after-totals.result e.policies c.self.invariant Volatile edit c.change_volatile.new.volatile
+    c.args.caller.processor c.args.caller.index call e.books c.change_volatile.new.books may is done.edited.map refl refl done.enters
+    (grown_volatile e.opened.value.1.0 e.store.1.0 e.volatile c.change_volatile.new.volatile _ e.books c.change_volatile.new.books done.enters))
+
+pub returns-in-Ok-clause-kept : goal.returns-in-Ok-clause-kept
+returns-in-Ok-clause-kept g c = λ _ sure.
+    let e = c.self.inside in
+    let side : Side = side_by e.opened.value.1.0 e.store.1.0 e.volatile e.books in
+    let next : Side = side_by e.opened.value.1.0 e.store.1.0 c.change_volatile.new.volatile c.change_volatile.new.books in
+    let edit = c.args.edit.now in
+    let call = c.args.call.now in
+    let may = subst (λ v. MayEdit (state_of v.1.1) Volatile edit) (sym c.self.view_is) c.requires.may in
+    let is =
+    subst (λ v. set_step (state_of v.1.1) call ≡ (Changed, changed (state_of v.1.1) (edited edit (state_of v.1.1).variables))) (sym c.self.view_is)
+    c.requires.step in
+    let keeps = subst (λ v. v.1.0 ≡ None → IfSome (g.F.Flash.holds v.0) (IsKeptBy v.1.1)) (sym c.self.view_is) c.view.ensures.kept in
+    let done = c.in-Ok.ensures.done in
+    kept_volatile side next edit c.self.invariant.consistent may
+    (variables_next side next e.totals c.totals_after-totals.result e.policies c.self.invariant Volatile edit c.change_volatile.new.volatile
+    c.args.caller.processor c.args.caller.index call e.books c.change_volatile.new.books may is done.edited.map refl refl done.enters
+    (grown_volatile e.opened.value.1.0 e.store.1.0 e.volatile c.change_volatile.new.volatile _ e.books c.change_volatile.new.books done.enters))
+    (g.F.Flash.holds e.store.0) (keeps sure)
+
+pub returns-in-Ok-clause-ended : goal.returns-in-Ok-clause-ended
+returns-in-Ok-clause-ended g c = λ _ change.
+    let edit = c.args.edit.now in
+    let state = state_of c.args.self.now.1.1 in
+    absurd (not_non_volatile state c.view.ensures.stands.ordered c.args.call.now edit c.requires.may c.requires.key c.requires.step change)

@@ -1,0 +1,7 @@
+pub mod Side
+pub mod Outcome
+pub mod Books
+pub mod Edit
+pub mod Changes
+pub mod Stands
+pub mod Engine

@@ -1,0 +1,57 @@
+-- What a call of the writer's side answers, and what it leaves of the history and of the flash.
+use Rattle.std.specs.Prelude.{◌≡◌, ◌≢◌, ◌⊎◌, ℕ, ◌≤◌, true, false, List, [], ◌∷◌, ◌++◌, length, take}
+use Rattle.outside.specs.Faults.{HasRisen}
+use Rattle.pending_range.specs.Ranges.{IsWider}
+use Rattle.var_trace.specs.StoreChange.{StoreChange}
+use Rattle.var_types.specs.declared.call.Call.{Call}
+use Rattle.var_types.specs.declared.call.SetCall.{SetCall}
+use Rattle.var_types.specs.declared.reply.Reply.{Reply}
+use Rattle.var_types.specs.declared.reply.SetReply.{SetReply}
+use Rattle.var_types.specs.declared.reply.SetReply.TheVariants.{Device}
+use Rattle.var_types.specs.declared.store.Store.TheVariants.{NonVolatile}
+use Rattle.var_types.specs.DeviceErrors.{IsReplyIn}
+use Rattle.var_types.specs.History.{Entry}
+use Rattle.var_types.specs.Kept.{IsSound, content, kept}
+use Rattle.var_types.specs.Layout.{headers_size}
+use Rattle.var_types.specs.Set.{set_step}
+use Rattle.var_types.specs.Step.{is_change}
+use Rattle.var_types.specs.Stores.{part}
+use Rattle.mm_writer.specs.Side.{Side, state_of}
+
+-- the entry of a call that a processor makes as the one of an index, if it is a change after a side's history
+abbrev pub entry_after : Side → ℕ → ℕ → Call → Entry
+entry_after side processor index call = record { number = length side.log; processor = processor; index = index; call = call }
+
+-- a side with one change more: the history has this entry behind the others, the pending ranges cover all that they did, and what the side opened
+-- with, its limit and what the cache has are as they were (this project's own)
+pub record Grows (old new : Side) (entry : Entry) : Type 0 where
+  pub delta : StoreChange
+  pub log : new.log ≡ old.log ++ record { entry = entry; delta = delta } ∷ []
+  pub opening : new.opening ≡ old.opening
+  pub limit : new.limit ≡ old.limit
+  pub flushed : new.flushed ≡ old.flushed
+  pub wider : IsWider old.ranges new.ranges
+
+-- a call was answered on a side: the reply is the one-thread service's after the side's history, or says that memory is wanting or that the flash
+-- failed; a change stands in the history, once, and any other call leaves the side (this project's own)
+pub record IsAnswered (old new : Side) (processor index : ℕ) (call : Call) (reply : Reply) : Type 0 where
+  pub right : IsReplyIn (state_of old) call reply
+  pub change : is_change reply ≡ true → Grows old new (entry_after old processor index call)
+  pub same : is_change reply ≡ false → new ≡ old
+
+-- an image keeps a side's non-volatile variables
+abbrev pub IsKeptBy : Side → List ℕ → Type 0
+IsKeptBy side image = kept image ≡ part NonVolatile (state_of side).variables
+
+-- an image that a power loss within a set may leave: it keeps the non-volatile variables of before or those that the set leaves, its headers are as
+-- they were, and it is no foreign work unless that of before is (this project's own)
+pub record IsSetLeft (side : Side) (call : SetCall) (image left : List ℕ) : Type 0 where
+  pub kept : IsKeptBy side left ⊎ (kept left ≡ part NonVolatile (set_step (state_of side) call).1.variables)
+  pub headers : take headers_size (content left) ≡ take headers_size (content image)
+  pub sound : IsSound image → IsSound left
+
+-- the cause of a set's reply: it says that the flash failed exactly where the count of failed calls rose (this project's own)
+pub record HasReplyCause (before after : ℕ) (reply : SetReply) : Type 0 where
+  pub done : reply ≢ Device → after ≡ before
+  pub failed : reply ≡ Device → HasRisen before after
+  pub never_falls : before ≤ after

@@ -1,0 +1,317 @@
+ghost use Rattle.std.specs.Prelude.{◌≡◌, ◌≢◌, ◌<◌, ◌≤◌, ◌^◌, ◌++◌, drop, None, true, IfOk, IfSome, List, length};
+ghost use Rattle.flash_dev.specs.Moments.{Stays};
+ghost use Rattle.flash_dev.specs.Rules.{IsKept as IsImageKept, Leaves};
+ghost use Rattle.mm_writer.specs.Edit.{MayEdit, MayWrite, edit_key, edited};
+ghost use Rattle.mm_writer.specs.Outcome.{HasReplyCause, IsAnswered, IsKeptBy, IsSetLeft};
+ghost use Rattle.mm_writer.specs.Side.{IsConsistent, state_of};
+ghost use Rattle.mm_writer.specs.Stands.{Stands};
+ghost use Rattle.policy_table.specs.PolicyState.{policies_of};
+ghost use Rattle.outside.specs.Faults.{HasRisen};
+ghost use Rattle.var_types.specs.declared.call.Call.TheVariants.{Set as SetCalled};
+ghost use Rattle.var_types.specs.declared.decision.Decision.TheVariants.{Remove as Removing, Write as Writing};
+ghost use Rattle.var_types.specs.declared.reply.Reply.TheVariants.{Set as SetReplied};
+ghost use Rattle.var_types.specs.declared.reply.SetReply.TheVariants.{Ok as Changed, Device as DeviceReplied};
+ghost use Rattle.var_types.specs.DeviceErrors.{IsNonVolatileChange};
+ghost use Rattle.var_types.specs.declared.store.Store.TheVariants.{NonVolatile, Volatile};
+ghost use Rattle.var_types.specs.Reading.{kept_bytes, set_key};
+ghost use Rattle.var_types.specs.Set.{changed, decision, set_step};
+ghost use Rattle.var_types.specs.State.{stored_at};
+ghost use Rattle.var_types.specs.Stores.{HaveSizes, state_in, state_seen};
+
+use crate::books::Books;
+use crate::changes::{ChangeFault, change_non_volatile, change_volatile};
+use crate::edit::Edit;
+use crate::prepared::Caller;
+use crate::totals::totals_after;
+use crate::view::EngineView;
+use crate::volatile_store::VolatileStore;
+use flash_dev::Flash;
+use nv_store::NvStore;
+use pending_range::agreement_grows_with_the_ranges as ranges_agree;
+use policy_table::PolicyTable;
+use set_rules::{RoomTotals, View, decide};
+use std::alloc::Global;
+use std::marker::Model;
+use std::snapshot::Snapshot;
+use var_region::{NewRecord, region_in};
+use var_types::{Bytes, Decision, OutOfMemory, SetCall, SetReply, Stamp, Store, decisions_decide};
+
+/// The management-mode side of the variable services on one thread: the non-volatile store on its flash, the volatile store in memory, the
+/// policies, the phase, and the history of the changes.
+#[derive(Drop)]
+pub struct Engine<F: Flash> {
+    pub(crate) alloc: Global,
+    pub(crate) store: NvStore<F>,
+    pub(crate) volatile: VolatileStore,
+    pub(crate) books: Books,
+    pub(crate) totals: RoomTotals,
+    pub(crate) policies: PolicyTable,
+    pub(crate) opened: Snapshot<NvStore<F>>,
+}
+
+impl<F: Flash> Model for Engine<F> {
+    ghost use Rattle.std.specs.Prelude.{List, Option, ℕ};
+    ghost use Rattle.mm_writer.specs.Engine.{IsKept, side_by};
+    ghost use Rattle.mm_writer.specs.Side.{Side};
+
+    // The flash, with it the bytes that a set in doubt was to leave, and the side.
+    ghost Value = { F × (Option (List ℕ) × Side) };
+
+    ghost view = { λ e. (e.store.0, (e.store.1.1, side_by e.opened.value.1.0 e.store.1.0 e.volatile e.books)) };
+
+    ghost invariant = { λ e. IsKept (side_by e.opened.value.1.0 e.store.1.0 e.volatile e.books) e.totals e.policies };
+}
+
+impl<F: Flash> Engine<F> {
+    fn policies(&self) -> &PolicyTable
+        ensures { policies_of (state_of self.now.1.1) ≡ result.now }
+    {
+        &self.policies
+    }
+
+    pub(crate) fn view(&self) -> EngineView<'_>
+        ensures stands { Stands result (state_of self.now.1.1) }
+        ensures seen { state_seen result.non_volatile result.volatile result.runtime ≡ state_in self.now.1.1.stores }
+        ensures consistent { IsConsistent self.now.1.1 }
+        ensures sizes { HaveSizes self.now.1.1.stores }
+        ensures kept { self.now.1.0 ≡ None → IfSome (F.holds self.now.0) (IsKeptBy self.now.1.1) }
+    {
+        EngineView {
+            non_volatile: region_in(Store::NonVolatile, self.store.mirror()),
+            volatile: region_in(Store::Volatile, self.volatile.bytes()),
+            totals: self.totals,
+            policies: self.policies(),
+            runtime: self.books.runtime,
+            made: self.books.trace.len(),
+            limit: self.books.trace.limit(),
+        }
+    }
+
+    fn decision(&self, call: &SetCall) -> Decision
+        ensures decision { result ≡ decision (state_of self.now.1.1) call.now }
+        ensures kept { self.now.1.0 ≡ None → IfSome (F.holds self.now.0) (IsKeptBy self.now.1.1) }
+    {
+        decide(&self.view(), call)
+    }
+
+    // Makes an edit of the volatile store that a set comes to.
+    fn edit_volatile(&mut self, edit: &Edit, caller: Caller, call: &SetCall) -> SetReply
+        requires may { MayEdit (state_of self.old.1.1) Volatile edit.now }
+        requires key { edit_key edit.now ≡ set_key call.now }
+        requires step { set_step (state_of self.old.1.1) call.now
+            ≡ (Changed, changed (state_of self.old.1.1) (edited edit.now (state_of self.old.1.1).variables)) }
+        requires more { (state_of self.old.1.1).made < (state_of self.old.1.1).limit }
+        ensures answered { IsAnswered self.old.1.1 self.new.1.1 caller.processor caller.index (SetCalled call.now) (SetReplied result) }
+        ensures untouched { result ≢ Changed → result ≢ DeviceReplied → self.new.0 ≡ self.old.0 }
+        ensures same_doubt { result ≢ Changed → result ≢ DeviceReplied → self.new.1.0 ≡ self.old.1.0 }
+        ensures sure { result ≡ Changed → self.old.1.0 ≡ None → self.new.1.0 ≡ None }
+        ensures ended { result ≡ Changed → IsNonVolatileChange (state_of self.old.1.1) call.now → self.new.1.0 ≡ None }
+        ensures kept { result ≡ Changed → self.new.1.0 ≡ None → IfSome (F.holds self.new.0) (IsKeptBy self.new.1.1) }
+        ensures at_any_moment { self.old.1.0 ≡ None → Stays (IsSetLeft self.old.1.1 call.now) F.moment F.left_since F.holds self.old.0 self.new.0 }
+        ensures cause { HasReplyCause (F.fault_count self.old.0) (F.fault_count self.new.0) result }
+    {
+        ranges_agree();
+        let totals = totals_after(&self.view(), Store::Volatile, edit);
+        match change_volatile(
+            self.alloc,
+            &mut self.volatile,
+            &mut self.books,
+            edit,
+            caller,
+            call,
+        ) {
+            Ok(()) => {
+                self.totals = totals;
+                SetReply::Ok
+            }
+            Err(_) => SetReply::OutOfMemory,
+        }
+    }
+
+    // Makes an edit of the non-volatile store that a set comes to, once a doubt has ended.
+    fn edit_non_volatile(&mut self, edit: &Edit, caller: Caller, call: &SetCall) -> SetReply
+        requires may { MayEdit (state_of self.old.1.1) NonVolatile edit.now }
+        requires key { edit_key edit.now ≡ set_key call.now }
+        requires step { set_step (state_of self.old.1.1) call.now
+            ≡ (Changed, changed (state_of self.old.1.1) (edited edit.now (state_of self.old.1.1).variables)) }
+        requires more { (state_of self.old.1.1).made < (state_of self.old.1.1).limit }
+        ensures answered { IsAnswered self.old.1.1 self.new.1.1 caller.processor caller.index (SetCalled call.now) (SetReplied result) }
+        ensures untouched { result ≢ Changed → result ≢ DeviceReplied → self.new.0 ≡ self.old.0 }
+        ensures same_doubt { result ≢ Changed → result ≢ DeviceReplied → self.new.1.0 ≡ self.old.1.0 }
+        ensures sure { result ≡ Changed → self.old.1.0 ≡ None → self.new.1.0 ≡ None }
+        ensures ended { result ≡ Changed → IsNonVolatileChange (state_of self.old.1.1) call.now → self.new.1.0 ≡ None }
+        ensures kept { result ≡ Changed → self.new.1.0 ≡ None → IfSome (F.holds self.new.0) (IsKeptBy self.new.1.1) }
+        ensures at_any_moment { self.old.1.0 ≡ None → Stays (IsSetLeft self.old.1.1 call.now) F.moment F.left_since F.holds self.old.0 self.new.0 }
+        ensures cause { HasReplyCause (F.fault_count self.old.0) (F.fault_count self.new.0) result }
+    {
+        ranges_agree();
+        let totals = totals_after(&self.view(), Store::NonVolatile, edit);
+        match change_non_volatile(
+            self.alloc,
+            &mut self.store,
+            &mut self.books,
+            edit,
+            caller,
+            call,
+        ) {
+            Ok(()) => {
+                self.totals = totals;
+                SetReply::Ok
+            }
+            Err(ChangeFault::OutOfMemory) => SetReply::OutOfMemory,
+            Err(ChangeFault::Device) => SetReply::Device,
+        }
+    }
+
+    // Makes an edit that a set comes to.
+    fn edit(&mut self, store: Store, edit: &Edit, caller: Caller, call: &SetCall) -> SetReply
+        requires may { MayEdit (state_of self.old.1.1) store edit.now }
+        requires key { edit_key edit.now ≡ set_key call.now }
+        requires step { set_step (state_of self.old.1.1) call.now
+            ≡ (Changed, changed (state_of self.old.1.1) (edited edit.now (state_of self.old.1.1).variables)) }
+        requires more { (state_of self.old.1.1).made < (state_of self.old.1.1).limit }
+        ensures answered { IsAnswered self.old.1.1 self.new.1.1 caller.processor caller.index (SetCalled call.now) (SetReplied result) }
+        ensures untouched { result ≢ Changed → result ≢ DeviceReplied → self.new.0 ≡ self.old.0 }
+        ensures same_doubt { result ≢ Changed → result ≢ DeviceReplied → self.new.1.0 ≡ self.old.1.0 }
+        ensures sure { result ≡ Changed → self.old.1.0 ≡ None → self.new.1.0 ≡ None }
+        ensures ended { result ≡ Changed → IsNonVolatileChange (state_of self.old.1.1) call.now → self.new.1.0 ≡ None }
+        ensures kept { result ≡ Changed → self.new.1.0 ≡ None → IfSome (F.holds self.new.0) (IsKeptBy self.new.1.1) }
+        ensures at_any_moment { self.old.1.0 ≡ None → Stays (IsSetLeft self.old.1.1 call.now) F.moment F.left_since F.holds self.old.0 self.new.0 }
+        ensures cause { HasReplyCause (F.fault_count self.old.0) (F.fault_count self.new.0) result }
+    {
+        match store {
+            Store::NonVolatile => self.edit_non_volatile(edit, caller, call),
+            Store::Volatile => self.edit_volatile(edit, caller, call),
+        }
+    }
+
+    // What is stored at a set's key, with its payload behind it.
+    fn joined(&self, call: &SetCall, payload: &[u8]) -> Result<Bytes, OutOfMemory>
+        ensures bytes { IfOk result (λ bytes. bytes ≡ kept_bytes true (stored_at (state_of self.now.1.1) (set_key call.now)) ++ payload.now) }
+        ensures kept { self.now.1.0 ≡ None → IfSome (F.holds self.now.0) (IsKeptBy self.now.1.1) }
+    {
+        let mut bytes = Bytes::new(self.alloc);
+        if let Some(stored) = self.view().stored(&call.guid, call.name.as_slice()) {
+            bytes.append(stored.payload)?;
+        }
+        bytes.append(payload)?;
+        Ok(bytes)
+    }
+
+    // Puts a variable with these parts, to which a set comes.
+    fn put(
+        &mut self,
+        attributes: u32,
+        stamp: Stamp,
+        bytes: &[u8],
+        caller: Caller,
+        call: &SetCall,
+    ) -> SetReply
+        requires { MayWrite (state_of self.old.1.1) call.now (record { attributes = attributes; bytes = bytes.now; stamp = stamp }) }
+        ensures answered { IsAnswered self.old.1.1 self.new.1.1 caller.processor caller.index (SetCalled call.now) (SetReplied result) }
+        ensures untouched { result ≢ Changed → result ≢ DeviceReplied → self.new.0 ≡ self.old.0 }
+        ensures same_doubt { result ≢ Changed → result ≢ DeviceReplied → self.new.1.0 ≡ self.old.1.0 }
+        ensures sure { result ≡ Changed → self.old.1.0 ≡ None → self.new.1.0 ≡ None }
+        ensures ended { result ≡ Changed → IsNonVolatileChange (state_of self.old.1.1) call.now → self.new.1.0 ≡ None }
+        ensures kept { result ≡ Changed → self.new.1.0 ≡ None → IfSome (F.holds self.new.0) (IsKeptBy self.new.1.1) }
+        ensures at_any_moment { self.old.1.0 ≡ None → Stays (IsSetLeft self.old.1.1 call.now) F.moment F.left_since F.holds self.old.0 self.new.0 }
+        ensures cause { HasReplyCause (F.fault_count self.old.0) (F.fault_count self.new.0) result }
+    {
+        let new = NewRecord {
+            guid: call.guid,
+            name: call.name.as_slice(),
+            attributes,
+            stamp,
+            payload: bytes,
+        };
+        self.edit(Store::of(attributes), &Edit::Put(new), caller, call)
+    }
+
+    // Writes what a set comes to: its payload, behind what is stored where it appends.
+    fn write(
+        &mut self,
+        attributes: u32,
+        stamp: Stamp,
+        skip: u64,
+        append: bool,
+        caller: Caller,
+        call: &SetCall,
+    ) -> SetReply
+        requires { Writing attributes stamp skip append ≡ decision (state_of self.old.1.1) call.now }
+        ensures answered { IsAnswered self.old.1.1 self.new.1.1 caller.processor caller.index (SetCalled call.now) (SetReplied result) }
+        ensures untouched { result ≢ Changed → result ≢ DeviceReplied → self.new.0 ≡ self.old.0 }
+        ensures same_doubt { result ≢ Changed → result ≢ DeviceReplied → self.new.1.0 ≡ self.old.1.0 }
+        ensures sure { result ≡ Changed → self.old.1.0 ≡ None → self.new.1.0 ≡ None }
+        ensures ended { result ≡ Changed → IsNonVolatileChange (state_of self.old.1.1) call.now → self.new.1.0 ≡ None }
+        ensures kept { result ≡ Changed → self.new.1.0 ≡ None → IfSome (F.holds self.new.0) (IsKeptBy self.new.1.1) }
+        ensures at_any_moment { self.old.1.0 ≡ None → Stays (IsSetLeft self.old.1.1 call.now) F.moment F.left_since F.holds self.old.0 self.new.0 }
+        ensures cause { HasReplyCause (F.fault_count self.old.0) (F.fault_count self.new.0) result }
+    {
+        decisions_decide();
+        let payload = payload_of(call, skip);
+        if !append {
+            return self.put(attributes, stamp, payload, caller, call);
+        }
+        match self.joined(call, payload) {
+            Ok(bytes) => self.put(attributes, stamp, bytes.as_slice(), caller, call),
+            Err(_) => SetReply::OutOfMemory,
+        }
+    }
+
+    // Deletes what is stored at a set's key, in its store.
+    fn remove(&mut self, store: Store, caller: Caller, call: &SetCall) -> SetReply
+        requires { Removing store ≡ decision (state_of self.old.1.1) call.now }
+        ensures answered { IsAnswered self.old.1.1 self.new.1.1 caller.processor caller.index (SetCalled call.now) (SetReplied result) }
+        ensures untouched { result ≢ Changed → result ≢ DeviceReplied → self.new.0 ≡ self.old.0 }
+        ensures same_doubt { result ≢ Changed → result ≢ DeviceReplied → self.new.1.0 ≡ self.old.1.0 }
+        ensures sure { result ≡ Changed → self.old.1.0 ≡ None → self.new.1.0 ≡ None }
+        ensures ended { result ≡ Changed → IsNonVolatileChange (state_of self.old.1.1) call.now → self.new.1.0 ≡ None }
+        ensures kept { result ≡ Changed → self.new.1.0 ≡ None → IfSome (F.holds self.new.0) (IsKeptBy self.new.1.1) }
+        ensures at_any_moment { self.old.1.0 ≡ None → Stays (IsSetLeft self.old.1.1 call.now) F.moment F.left_since F.holds self.old.0 self.new.0 }
+        ensures cause { HasReplyCause (F.fault_count self.old.0) (F.fault_count self.new.0) result }
+    {
+        decisions_decide();
+        let edit = Edit::Remove {
+            guid: call.guid,
+            name: call.name.as_slice(),
+        };
+        self.edit(store, &edit, caller, call)
+    }
+
+    /// Answers SetVariable, as the one-thread service does after the history so far (UEFI 2.10, 8.2.3). A set that is to change a non-volatile
+    /// variable ends a doubt first; all memory is taken before the first step of the flash.
+    pub fn set(&mut self, processor: u8, index: u32, call: &SetCall) -> SetReply
+        ensures answered { IsAnswered self.old.1.1 self.new.1.1 processor index (SetCalled call.now) (SetReplied result) }
+        ensures untouched { result ≢ Changed → result ≢ DeviceReplied → self.new.0 ≡ self.old.0 }
+        ensures same_doubt { result ≢ Changed → result ≢ DeviceReplied → self.new.1.0 ≡ self.old.1.0 }
+        ensures sure { result ≡ Changed → self.old.1.0 ≡ None → self.new.1.0 ≡ None }
+        ensures ended { result ≡ Changed → IsNonVolatileChange (state_of self.old.1.1) call.now → self.new.1.0 ≡ None }
+        ensures kept { result ≡ Changed → self.new.1.0 ≡ None → IfSome (F.holds self.new.0) (IsKeptBy self.new.1.1) }
+        ensures at_any_moment { self.old.1.0 ≡ None → Stays (IsSetLeft self.old.1.1 call.now) F.moment F.left_since F.holds self.old.0 self.new.0 }
+        ensures cause { HasReplyCause (F.fault_count self.old.0) (F.fault_count self.new.0) result }
+    {
+        decisions_decide();
+        let caller = Caller { processor, index };
+        match self.decision(call) {
+            Decision::Refuse(reason) => SetReply::Refused(reason),
+            Decision::Same => SetReply::Same,
+            Decision::Remove(store) => self.remove(store, caller, call),
+            Decision::Write {
+                attributes,
+                stamp,
+                skip,
+                append,
+            } => self.write(attributes, stamp, skip, append, caller, call),
+        }
+    }
+}
+
+// What stands behind a set's first bytes.
+fn payload_of(call: &SetCall, skip: u64) -> &[u8]
+    requires { skip ≤ length call.now.bytes }
+    ensures payload { result.now ≡ drop skip call.now.bytes }
+    ensures attributes { call.now.attributes < 2 ^ 32 }
+{
+    let _attributes = call.attributes;
+    &call.bytes.as_slice()[skip as usize..]
+}

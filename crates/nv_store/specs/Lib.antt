@@ -1,0 +1,11 @@
+pub mod Places
+pub mod Tidy
+pub mod Changes
+pub mod Steps
+pub mod Rooms
+pub mod Anew
+pub mod Mirror
+pub mod Outcome
+pub mod Opening
+pub mod StepsLeft
+pub mod Laws

@@ -1,0 +1,6 @@
+mod Units
+mod FrontNames
+mod Sizes
+mod NulEnds
+mod ReadBack
+mod Written

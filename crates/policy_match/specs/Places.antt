@@ -1,0 +1,20 @@
+-- The place of the policy that counts.
+use Rattle.std.specs.Option.{option_map}
+use Rattle.std.specs.Prelude.{ℕ, ◌+◌, List, drop, nat_le, if◌then◌else◌, Option, Some, None}
+use Rattle.var_types.specs.declared.key.Key.{Key}
+use Rattle.var_types.specs.declared.policy.Policy.{Policy}
+use Rattle.var_types.specs.Policies.{best, wildcards}
+
+-- the place of the policy that counts for a key, from 0 (EDK II, GetBestPolicyMatch)
+abbrev pub best_place : List Policy → Key → Option ℕ
+best_place policies key = option_map (λ (found : ℕ × Policy). found.0) (best policies key)
+
+-- the place and the wildcards of the policy that counts among those from a place on
+abbrev pub best_from : List Policy → Key → ℕ → Option (ℕ × ℕ)
+best_from policies key place =
+    option_map (λ (found : ℕ × Policy). (place + found.0, wildcards found.1)) (best (drop place policies) key)
+
+-- of two policies by their places and wildcards the first, unless the other has fewer
+abbrev pub fewer : ℕ × ℕ → Option (ℕ × ℕ) → ℕ × ℕ
+fewer here None = here
+fewer here (Some rival) = if nat_le here.1 rival.1 then here else rival

@@ -1,0 +1,2 @@
+pub mod PolicyState
+pub mod Answers

@@ -1,0 +1,40 @@
+-- Lines with another number of words than their verb has.
+use Rattle.std.proofs.Common.{◌≡◌, ◌≢◌, ℕ, ◌<◌, List, [], ◌∷◌, length, Err, refl, arith}
+use Rattle.script_text.specs.declared.line_reason.LineReason.TheVariants as reason
+use Rattle.script_text.specs.Words.{get_words, next_words, policy_words, register_words, set_words}
+
+pub other_get_words : (words : List (List ℕ)) → length words ≢ 3 → get_words words ≡ Err reason.Words
+unfolding get_words
+other_get_words [] other = refl
+other_get_words (a ∷ []) other = refl
+other_get_words (a ∷ b ∷ []) other = refl
+other_get_words (a ∷ b ∷ c ∷ []) other = absurd (other refl)
+other_get_words (a ∷ b ∷ c ∷ d ∷ rest) other = refl
+
+pub other_next_words : (words : List (List ℕ)) → length words ≢ 3 → next_words words ≡ Err reason.Words
+unfolding next_words
+other_next_words [] other = refl
+other_next_words (a ∷ []) other = refl
+other_next_words (a ∷ b ∷ []) other = refl
+other_next_words (a ∷ b ∷ c ∷ []) other = absurd (other refl)
+other_next_words (a ∷ b ∷ c ∷ d ∷ rest) other = refl
+
+pub few_set_words : (words : List (List ℕ)) → length words < 4 → set_words words ≡ Err reason.Words
+unfolding set_words
+few_set_words [] few = refl
+few_set_words (a ∷ []) few = refl
+few_set_words (a ∷ b ∷ []) few = refl
+few_set_words (a ∷ b ∷ c ∷ []) few = refl
+few_set_words (a ∷ b ∷ c ∷ d ∷ rest) few = absurd (omega arith)
+
+pub other_register_words : (words : List (List ℕ)) → length words ≢ 1 → register_words words ≡ Err reason.Words
+unfolding register_words
+other_register_words [] other = refl
+other_register_words (a ∷ []) other = absurd (other refl)
+other_register_words (a ∷ b ∷ rest) other = refl
+
+pub other_policy_words : (words : List (List ℕ)) → length words ≢ 1 → policy_words words ≡ Err reason.Words
+unfolding policy_words
+other_policy_words [] other = refl
+other_policy_words (a ∷ []) other = absurd (other refl)
+other_policy_words (a ∷ b ∷ rest) other = refl

@@ -1,0 +1,9 @@
+use Rattle.std.proofs.Common.{sym, subst}
+use Rattle.svc_core.proofs.Steps.{is_load_made}
+use Rattle.svc_core.specs.declared.point.Point.TheVariants as point
+use Rattle.svc_core.specs.Machine.{IsStep}
+use Rattle.svc_core.proofs.machine.Machine.load_made.Goals as goal
+
+pub returns : goal.returns
+returns c =
+    subst (IsStep c.args.self.now c.args.p point.LoadMade) (sym c.put.ensures) (is_load_made c.args.self.now c.args.p)

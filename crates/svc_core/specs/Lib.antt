@@ -1,0 +1,14 @@
+pub mod FlashSteps
+pub mod Writer
+pub mod Plan
+pub mod World
+pub mod Ranges
+pub mod Rows
+pub mod Events
+pub mod Power
+pub mod Stages
+pub mod Invariant
+pub mod Laws
+pub mod Progress
+pub mod Machine
+pub mod Scene

@@ -1,0 +1,9 @@
+pub mod StoreChange
+pub mod Pieces
+pub mod Recorded
+pub mod Answers
+pub mod Session
+pub mod StoresAfter
+pub mod Routes
+pub mod LegalSession
+pub mod Laws

@@ -1,0 +1,110 @@
+-- What `clap` makes of a verb and the words behind it, of which none begins with a dash.
+use Rattle.std.proofs.Common.{◌≡◌, ℕ, ◌+◌, ◌≤◌, Bool, true, false, cond, ltb, inl, inr, List, [], ◌∷◌, length, take, Some, None, refl, sym, ap, ◌∙◌, subst, arith}
+use Rattle.std.specs.Prelude.{position}
+use Rattle.std.specs.List.{position_or_len}
+use Rattle.std.proofs.lemmas.Bool.{cases_Bool, le-ltb, ltb-false}
+use Rattle.clap.specs.Words.{IsAmong, Kinds, fault_of, is_simple, is_simple_and_free, subcommand_of}
+use Rattle.clap.specs.declared.error.kind.ErrorKind.{ErrorKind}
+use Rattle.clap.specs.declared.error.kind.ErrorKind.TheVariants as kind
+use Rattle.clap.proofs.OnLiterals.{clap_on_literals}
+use Rattle.script_text.proofs.LineLemmas.{missing as missing_place}
+use Rattle.varsvc.specs.declared.verb.Verb.{Verb}
+use Rattle.varsvc.specs.declared.verb.Verb.TheVariants as verb
+use Rattle.varsvc.specs.Cli.{cli, image_in, refusal_of, verb_word}
+use Rattle.varsvc.specs.Order.{IsUsage, image_order, is_dashed}
+
+pub cli_is_simple : is_simple cli ≡ true
+cli_is_simple = refl
+
+pub cli_is_free : is_simple_and_free cli ≡ true
+cli_is_free = refl
+
+-- a verb alone
+missing : (v : Verb) → fault_of cli (verb_word v ∷ []) ≡ kind.MissingRequiredArgument ∷ []
+unfolding clap_on_literals
+missing verb.Run = refl
+missing verb.List = refl
+missing verb.Check = refl
+missing verb.Format = refl
+
+-- a verb and a word
+accepted : (v : Verb) (a : List ℕ) → is_dashed a ≡ false → fault_of cli (verb_word v ∷ a ∷ []) ≡ []
+unfolding clap_on_literals
+accepted verb.Run [] plain = refl
+accepted verb.Run (c ∷ cs) plain = rw plain (rw plain refl)
+accepted verb.List [] plain = refl
+accepted verb.List (c ∷ cs) plain = rw plain (rw plain refl)
+accepted verb.Check [] plain = refl
+accepted verb.Check (c ∷ cs) plain = rw plain (rw plain refl)
+accepted verb.Format [] plain = refl
+accepted verb.Format (c ∷ cs) plain = rw plain (rw plain refl)
+
+image : (v : Verb) (a : List ℕ) → is_dashed a ≡ false → image_in (subcommand_of cli (verb_word v ∷ a ∷ [])) ≡ Some a
+unfolding clap_on_literals
+image verb.Run [] plain = refl
+image verb.Run (c ∷ cs) plain = rw plain (rw plain refl)
+image verb.List [] plain = refl
+image verb.List (c ∷ cs) plain = rw plain (rw plain refl)
+image verb.Check [] plain = refl
+image verb.Check (c ∷ cs) plain = rw plain (rw plain refl)
+image verb.Format [] plain = refl
+image verb.Format (c ∷ cs) plain = rw plain (rw plain refl)
+
+-- a verb and two words
+extra : (v : Verb) (a b : List ℕ) → is_dashed a ≡ false → is_dashed b ≡ false → fault_of cli (verb_word v ∷ a ∷ b ∷ []) ≡ kind.UnknownArgument ∷ []
+unfolding clap_on_literals
+extra verb.Run [] [] plain also = refl
+extra verb.Run [] (d ∷ ds) plain also = rw also (rw also refl)
+extra verb.Run (c ∷ cs) [] plain also = rw plain (rw plain refl)
+extra verb.Run (c ∷ cs) (d ∷ ds) plain also = rw plain (rw plain (rw also (rw also refl)))
+extra verb.List [] [] plain also = refl
+extra verb.List [] (d ∷ ds) plain also = rw also (rw also refl)
+extra verb.List (c ∷ cs) [] plain also = rw plain (rw plain refl)
+extra verb.List (c ∷ cs) (d ∷ ds) plain also = rw plain (rw plain (rw also (rw also refl)))
+extra verb.Check [] [] plain also = refl
+extra verb.Check [] (d ∷ ds) plain also = rw also (rw also refl)
+extra verb.Check (c ∷ cs) [] plain also = rw plain (rw plain refl)
+extra verb.Check (c ∷ cs) (d ∷ ds) plain also = rw plain (rw plain (rw also (rw also refl)))
+extra verb.Format [] [] plain also = refl
+extra verb.Format [] (d ∷ ds) plain also = rw also (rw also refl)
+extra verb.Format (c ∷ cs) [] plain also = rw plain (rw plain refl)
+extra verb.Format (c ∷ cs) (d ∷ ds) plain also = rw plain (rw plain (rw also (rw also refl)))
+
+-- where no word is dashed, the first is not, nor is one of the others
+undashed : (a : List ℕ) (rest : List (List ℕ)) → position is_dashed (a ∷ rest) ≡ None → (is_dashed a ≡ false) × (position is_dashed rest ≡ None)
+undashed a rest none =
+    let past : length (a ∷ rest) ≤ position_or_len is_dashed (a ∷ rest) =
+    ltb-false _ _ (missing_place (ltb (position_or_len is_dashed (a ∷ rest)) (length (a ∷ rest))) (position_or_len is_dashed (a ∷ rest)) (sym none)) in
+    elim (cases_Bool (is_dashed a)) [
+      | inl dashed ↦ let here : position_or_len is_dashed (a ∷ rest) ≡ 0 = rw dashed refl in absurd (omega (arith, past, here))
+      | inr plain ↦
+          let behind : position_or_len is_dashed (a ∷ rest) ≡ 1 + position_or_len is_dashed rest = rw plain refl in (
+            plain,
+            ap (λ (b : Bool). cond b (Some (position_or_len is_dashed rest)) None)
+                (le-ltb (position_or_len is_dashed rest) (length rest) (omega (arith, past, behind))),
+          )
+    ]
+
+-- a parse that succeeds found one word behind the verb
+pub parsed_one : (v : Verb) (rest : List (List ℕ)) → position is_dashed rest ≡ None → fault_of cli (take 3 (verb_word v ∷ rest)) ≡ []
+    → (a : List ℕ) × (rest ≡ a ∷ []) × (image_in (subcommand_of cli (take 3 (verb_word v ∷ rest))) ≡ Some a)
+parsed_one v [] none h = let other : kind.MissingRequiredArgument ∷ [] ≡ [] = sym (missing v) ∙ h in cc
+parsed_one v (a ∷ []) none h = (a, refl, image v a (undashed a [] none).0)
+parsed_one v (a ∷ b ∷ rest) none h =
+    let first = undashed a (b ∷ rest) none in
+    let other : kind.UnknownArgument ∷ [] ≡ [] = sym (extra v a b first.0 (undashed b rest first.1).0) ∙ h in cc
+
+-- one that fails refuses the words for their number
+among : (k found : ErrorKind) → IsAmong k (found ∷ []) → k ≡ found
+among k found (inl is) = is
+among k found (inr other) = absurd other
+
+pub parsed_none : (v : Verb) (rest : List (List ℕ)) (k : ErrorKind) → position is_dashed rest ≡ None
+    → IsAmong k (fault_of cli (take 3 (verb_word v ∷ rest))) → IsUsage (refusal_of k) (image_order v rest)
+parsed_none v [] k none h =
+    subst (λ (e : ErrorKind). IsUsage (refusal_of e) (image_order v [])) (sym (among k _ (subst (λ (ks : Kinds). IsAmong k ks) (missing v) h))) refl
+parsed_none v (a ∷ []) k none h = absurd (subst (λ (ks : Kinds). IsAmong k ks) (accepted v a (undashed a [] none).0) h)
+parsed_none v (a ∷ b ∷ rest) k none h =
+    let first = undashed a (b ∷ rest) none in
+    subst (λ (e : ErrorKind). IsUsage (refusal_of e) (image_order v (a ∷ b ∷ rest)))
+    (sym (among k _ (subst (λ (ks : Kinds). IsAmong k ks) (extra v a b first.0 (undashed b rest first.1).0) h))) refl

@@ -1,0 +1,11 @@
+use crate::content::Content;
+use crate::session::Session;
+
+/// What is printed while it is written.
+#[derive(Debug, Drop)]
+pub enum Streamed {
+    /// The report of a session.
+    Report { session: Session },
+    /// The listing of the variables of a content.
+    Listing { content: Content },
+}

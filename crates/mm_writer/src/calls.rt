@@ -6,7 +6,7 @@ ghost use Rattle.var_types.specs.Answers.{get_answer, next_answer};
 ghost use Rattle.var_types.specs.declared.call.Call.TheVariants.{ExitBoot as ExitCalled, Policy as PolicyCalled};
 ghost use Rattle.var_types.specs.declared.reply.Reply.TheVariants.{Exit as ExitReplied, Policy as PolicyReplied};
 ghost use Rattle.var_types.specs.Get.{get_reply};
-ghost use Rattle.var_types.specs.Layout.{longest_region, volatile_size, volume_size};
+ghost use Rattle.var_types.specs.Layout.{image_size, longest_region, volatile_size, volume_size};
 ghost use Rattle.var_types.specs.Next.{next_reply};
 ghost use Rattle.var_types.specs.PolicyStep.{takes_memory};
 ghost use Rattle.var_types.specs.Step.{is_change};
@@ -206,6 +206,7 @@ impl<F: Flash> Engine<F> {
         ensures log { result.now ≡ record { log = self.now.1.1.log; limit = self.now.1.1.limit } }
         ensures consistent { IsConsistent self.now.1.1 }
         ensures kept { self.now.1.0 ≡ None → IfSome (F.holds self.now.0) (IsKeptBy self.now.1.1) }
+        ensures size { F.size self.now.0 ≡ image_size }
     {
         let _view = self.view();
         &self.books.trace

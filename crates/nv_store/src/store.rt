@@ -84,7 +84,8 @@ impl<F: Flash> NvStore<F> {
         ensures untouched { IfErr result (λ fault. fault.why ≢ LoadDevice → Stays IsKept F.moment F.left_since F.holds flash fault.flash) }
         ensures done { IfOk result (λ store. F.fault_count store.0 ≡ F.fault_count flash) }
         ensures cause { IfErr result (λ fault. HasLoadCause (F.fault_count flash) (F.fault_count fault.flash) (Some fault.why)) }
-        ensures same_size { IfErr result (λ fault. F.size fault.flash ≡ F.size flash) }
+        ensures same_size { IfOk result (λ store. F.size store.0 ≡ F.size flash) }
+        ensures same_size_refused { IfErr result (λ fault. F.size fault.flash ≡ F.size flash) }
     {
         match buffers(alloc) {
             Ok((mirror, scratch)) => NvStore::open(flash, mirror, scratch),
@@ -114,7 +115,8 @@ impl<F: Flash> NvStore<F> {
         ensures untouched { IfErr result (λ fault. fault.why ≢ LoadDevice → Stays IsKept F.moment F.left_since F.holds flash fault.flash) }
         ensures done { IfOk result (λ store. F.fault_count store.0 ≡ F.fault_count flash) }
         ensures cause { IfErr result (λ fault. HasLoadCause (F.fault_count flash) (F.fault_count fault.flash) (Some fault.why)) }
-        ensures same_size { IfErr result (λ fault. F.size fault.flash ≡ F.size flash) }
+        ensures same_size { IfOk result (λ store. F.size store.0 ≡ F.size flash) }
+        ensures same_size_refused { IfErr result (λ fault. F.size fault.flash ≡ F.size flash) }
     {
         let mut flash = flash;
         let mut mirror = mirror;

@@ -14,13 +14,13 @@ use Rattle.var_types.proofs.ReplyKinds.{IsOfKind-stepped}
 use Rattle.varsvc.specs.declared.plan.Plan.{Plan}
 use Rattle.varsvc.specs.declared.plan.Plan.TheVariants.{Print, Stream, InputFault, DeviceFault, NoMemory}
 use Rattle.varsvc.specs.declared.streamed.Streamed.TheVariants as streamed
-use Rattle.varsvc.specs.Fitting.{IsFitting}
+use Rattle.report_text.specs.Fitting.{IsFitting}
 use Rattle.varsvc.specs.Input.{IsInput, most_read}
 use Rattle.varsvc.specs.Outcome.{IsText, run_row}
 use Rattle.varsvc.specs.Plan.{HasPlanValues, report_status, status_of, text_of}
 use Rattle.varsvc.specs.RunPlan.{PlansRun}
 use Rattle.varsvc.specs.Runs.{IsSessionOf, RefusesScript, Reports, lacks_any, report_of}
-use Rattle.varsvc.specs.Values.{AnswerHasValues}
+use Rattle.report_text.specs.Values.{AnswerHasValues}
 use Rattle.varsvc.proofs.PlannedTexts.{text_done, text_lacking, text_memory}
 use Rattle.varsvc.proofs.Scripts.{script_of-long, script_of-take}
 

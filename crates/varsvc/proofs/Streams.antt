@@ -21,7 +21,7 @@ use Rattle.varsvc.specs.declared.usage.UsageFault.{UsageFault}
 use Rattle.varsvc.specs.FaultLines.{memory_line}
 use Rattle.varsvc.specs.Outcome.{Counts, FailsAt, IsPlanned, IsText, LeavesImage, Prints, ReadsInput, Row, row}
 use Rattle.varsvc.specs.Plan.{ComesTo, Gains, HasPlanValues, IsOutcome, IsPrintable, IsStreamed, report_status, status_of, streamed_status, streamed_text, text_of}
-use Rattle.varsvc.specs.Report.{entry_line, history_lines, processors_text, session_text}
+use Rattle.report_text.specs.Report.{entry_line, history_lines, processors_text, session_text}
 use Rattle.varsvc.specs.Runs.{lacks_any, report_of}
 use Rattle.varsvc.proofs.PlannedTexts.{text_memory}
 

@@ -12,5 +12,5 @@ same_calls script c d h k = cc
 
 -- a report tells the session
 pub one_session : OneTextOneSession
-one_session input image xs ys of_xs of_ys e =
-    same_session xs ys (same_calls (script_of input) (calls_of xs) (calls_of ys) of_xs.script of_ys.script) of_xs.fitting of_ys.fitting e
+one_session input xs ys of_xs of_ys fit_xs fit_ys e =
+    same_session xs ys (same_calls (script_of input) (calls_of xs) (calls_of ys) of_xs of_ys) fit_xs fit_ys e

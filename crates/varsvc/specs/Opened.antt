@@ -4,7 +4,7 @@ use Rattle.flash_dev.specs.Moments.{Stays}
 use Rattle.mm_writer.specs.Side.{Side, state_of}
 use Rattle.nv_store.specs.declared.load_fault.LoadWhy.{LoadWhy}
 use Rattle.nv_store.specs.declared.load_fault.LoadWhy.TheVariants.{Image, ForeignWork, Device, OutOfMemory}
-use Rattle.nv_store.specs.Opening.{IsOpeningLeft}
+use Rattle.nv_store.specs.Opening.{IsOpeningLeft, refusal_of}
 use Rattle.varsvc.specs.declared.plan.Plan.{Plan}
 use Rattle.varsvc.specs.declared.plan.Plan.TheVariants.{DeviceFault, NoMemory}
 use Rattle.varsvc.specs.FaultLines.{foreign_line, image_line}
@@ -15,6 +15,7 @@ use Rattle.varsvc.specs.Runs.{start_on}
 pub record IsOpened {F : Type 0} (fault_count moment : F → ℕ) (left_since : F → ℕ → List ℕ → Type 0) (holds : F → Option (List ℕ)) (flash : F) (calls : ℕ)
     (engine : F × (Option (List ℕ) × Side)) : Type 0 where
   pub state : IfSome (holds flash) (λ image. state_of engine.1.1 ≡ start_on image calls)
+  pub accepted : IfSome (holds flash) (λ image. refusal_of image ≡ None)
   pub empty : engine.1.1.log ≡ []
   pub sure : engine.1.0 ≡ None
   pub at_any_moment : Stays IsOpeningLeft moment left_since holds flash engine.0

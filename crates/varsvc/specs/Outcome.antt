@@ -1,5 +1,5 @@
 -- What a call of the program prints and leaves, by what its words ask for and by the status that it ends with.
-use Rattle.std.specs.Prelude.{◌≡◌, ◌≢◌, ◌⊎◌, ℕ, Bool, true, false, List, Option, Result, Ok, Err, IsTrue}
+use Rattle.std.specs.Prelude.{◌≡◌, ◌≢◌, ◌⊎◌, ℕ, Bool, true, false, List, Option, Result, Ok, Err, IfSome, IsOk, IsTrue}
 use Rattle.std.specs.Io.KnownBytes.{Appends, IsAtEnd}
 use Rattle.flash_dev.specs.Blank.{blank_image}
 use Rattle.flash_dev.specs.Formatting.{IsFormatLeft}
@@ -7,6 +7,7 @@ use Rattle.flash_dev.specs.Moments.{Stays}
 use Rattle.flash_dev.specs.Rules.{IsKept, Leaves}
 use Rattle.outside.specs.Faults.{HasRisen}
 use Rattle.outside.specs.Written.{AppendsPart}
+use Rattle.script_text.specs.Script.{script_of}
 use Rattle.var_types.specs.Layout.{image_size}
 use Rattle.varsvc.specs.declared.inspection.Inspection.{Inspection}
 use Rattle.varsvc.specs.declared.inspection.Inspection.TheVariants as inspection
@@ -17,7 +18,7 @@ use Rattle.varsvc.specs.FaultLines.{device_line, input_line, memory_line, usage_
 use Rattle.varsvc.specs.Input.{TakesAtMost, most_read}
 use Rattle.varsvc.specs.Images.{Formats, Inspects, IsImage, IsNoImage, RefusesFormat, RefusesList}
 use Rattle.varsvc.specs.Order.{IsRunOrder}
-use Rattle.varsvc.specs.Runs.{IsNoScript, IsScript, LeavesUntouched, LeavesVariables, RefusesScript, Reports}
+use Rattle.varsvc.specs.Runs.{IsNoScript, IsScript, LeavesUntouched, LeavesVariables, RefusesScript, Reports, Runs}
 use Rattle.varsvc.specs.Told.{Told, told_of}
 
 -- no text
@@ -33,9 +34,11 @@ pub record Row : Type 1 where
   pub image : List ℕ → Type 0
   -- the reports that it prints where replies are out of memory
   pub lacking : List ℕ → Type 0
-  -- how the image stands where nothing was done, and where a call of the flash failed before anything was
+  -- how the image stands where nothing was done, where a call of the flash failed before anything was, and where all was done but for the
+  -- printing
   pub untouched : Type 0
   pub unopened : Type 0
+  pub unprinted : Type 0
   -- whether it reads the source, opens the image, prints anything where all is done, and may say in a reply that the flash failed
   pub reads : Bool
   pub opens : Bool
@@ -54,10 +57,11 @@ run_row told = record {
   output = Reports told false;
   usage = NoText;
   script = RefusesScript told.input;
-  image = RefusesList told.image told.size;
+  image = λ text. IfSome told.input (λ input. IsOk (script_of input)) × RefusesList told.image told.size text;
   lacking = Reports told true;
   untouched = LeavesUntouched told;
   unopened = LeavesVariables told;
+  unprinted = Runs told;
   reads = true;
   opens = true;
   prints = true;
@@ -78,6 +82,7 @@ inspection_row what image size = record {
   lacking = NoText;
   untouched = Unit {0};
   unopened = Unit {0};
+  unprinted = Unit {0};
   reads = false;
   opens = true;
   prints = true;
@@ -98,6 +103,7 @@ format_row size = record {
   lacking = NoText;
   untouched = Unit {0};
   unopened = Unit {0};
+  unprinted = Unit {0};
   reads = false;
   opens = true;
   prints = false;
@@ -118,6 +124,7 @@ usage_row fault = record {
   lacking = NoText;
   untouched = Unit {0};
   unopened = Unit {0};
+  unprinted = Unit {0};
   reads = false;
   opens = false;
   prints = true;
@@ -140,7 +147,7 @@ row (Err fault) told = usage_row fault
 -- of memory, and it is printed
 abbrev pub LacksMemory : Row → List ℕ → Type 0
 LacksMemory r text =
-    ((text ≡ memory_line) × (r.untouched ⊎ ((report : List ℕ) × (r.output report ⊎ r.lacking report)))) ⊎ r.lacking text
+    ((text ≡ memory_line) × (r.untouched ⊎ r.unprinted)) ⊎ r.lacking text
 
 -- the text that goes with a status; a failed write decides the status afterwards, so that this is never 5 (this project's own)
 pub record IsText (r : Row) (status : ℕ) (text : List ℕ) : Type 0 where

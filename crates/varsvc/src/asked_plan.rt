@@ -1,5 +1,5 @@
 //! What the words ask for is done, and what is to be printed of it is planned.
-ghost use Rattle.std.specs.Prelude.{◌≡◌, false};
+ghost use Rattle.std.specs.Prelude.{◌≡◌, ◌⊎◌, false};
 ghost use Rattle.flash_dev.specs.Formatting.{IsFormatLeft};
 ghost use Rattle.flash_dev.specs.Moments.{Stays};
 ghost use Rattle.flash_dev.specs.Rules.{IsKept};
@@ -52,6 +52,8 @@ pub fn plan_asked<S: Source, F: Flash>(
     image: F,
 ) -> Planned<F>
     ensures text { HasPlanValues result.plan → IsText (row (asked words.now) (told_of F.holds F.size F.fault_count F.moment F.left_since (S.left script.old) image result.image)) (status_of result.plan) (text_of result.plan) }
+    ensures unprinted { IsStreamed result.plan → (row (asked words.now) (told_of F.holds F.size F.fault_count F.moment F.left_since (S.left script.old) image result.image)).untouched
+        ⊎ (row (asked words.now) (told_of F.holds F.size F.fault_count F.moment F.left_since (S.left script.old) image result.image)).unprinted }
     ensures source { FailsAt 6 (status_of result.plan) (S.fault_count script.old) (S.fault_count script.new) }
     ensures flash { FlashFails (row (asked words.now) (told_of F.holds F.size F.fault_count F.moment F.left_since (S.left script.old) image result.image)) (status_of result.plan) (F.fault_count image) (F.fault_count result.image) }
     ensures reads { ReadsInput (row (asked words.now) (told_of F.holds F.size F.fault_count F.moment F.left_since (S.left script.old) image result.image)) (status_of result.plan) (S.left script.old) (S.left script.new) }

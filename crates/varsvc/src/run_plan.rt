@@ -1,12 +1,13 @@
 //! The running of a script on an image, and what is to be printed of it.
-ghost use Rattle.std.specs.Prelude.{◌≡◌, ◌≢◌, ◌<◌, ◌≤◌, [], ◌∷◌, length, List, Option, Some, ℕ};
+ghost use Rattle.std.specs.Prelude.{◌≡◌, ◌≢◌, ◌<◌, ◌≤◌, [], ◌∷◌, length, List, Option, ℕ};
 ghost use Rattle.script_text.specs.Script.{most_calls};
 ghost use Rattle.varsvc.specs.FaultLines.{script_line};
 ghost use Rattle.varsvc.specs.Input.{most_read};
 ghost use Rattle.varsvc.specs.Opened.{IsOpened, PlansUnopened};
 ghost use Rattle.varsvc.specs.Outcome.{FailsAt, FlashFails, IsText, ReadsInput, run_row};
-ghost use Rattle.varsvc.specs.Plan.{HasPlanValues, PlansLine, status_of, text_of};
+ghost use Rattle.varsvc.specs.Plan.{HasPlanValues, IsStreamed, PlansLine, status_of, text_of};
 ghost use Rattle.varsvc.specs.RunPlan.{PlansRun};
+ghost use Rattle.varsvc.specs.Runs.{Runs, SaysSame};
 ghost use Rattle.varsvc.specs.Told.{told_of};
 
 use crate::desk::Desk;
@@ -118,8 +119,12 @@ fn first_calls(alloc: Global, script: Script) -> Vec<Call>
 }
 
 fn plan_script<F: Flash>(alloc: Global, input: &[u8], image: F) -> Planned<F>
-    ensures text { HasPlanValues result.plan → IsText (run_row (told_of F.holds F.size F.fault_count F.moment F.left_since (Some input.now) image result.image)) (status_of result.plan) (text_of result.plan) }
-    ensures flash { FlashFails (run_row (told_of F.holds F.size F.fault_count F.moment F.left_since (Some input.now) image result.image)) (status_of result.plan) (F.fault_count image) (F.fault_count result.image) }
+    ensures text { (left : Option (List ℕ)) → SaysSame left input.now → HasPlanValues result.plan
+        → IsText (run_row (told_of F.holds F.size F.fault_count F.moment F.left_since left image result.image)) (status_of result.plan) (text_of result.plan) }
+    ensures unprinted { (left : Option (List ℕ)) → SaysSame left input.now → IsStreamed result.plan
+        → Runs (told_of F.holds F.size F.fault_count F.moment F.left_since left image result.image) }
+    ensures flash { (left : Option (List ℕ))
+        → FlashFails (run_row (told_of F.holds F.size F.fault_count F.moment F.left_since left image result.image)) (status_of result.plan) (F.fault_count image) (F.fault_count result.image) }
     ensures was_read { status_of result.plan ≢ 6 }
     ensures short { status_of result.plan ≡ 0 → length input.now < most_read }
     ensures size { F.size result.image ≡ F.size image }
@@ -140,6 +145,7 @@ fn plan_script<F: Flash>(alloc: Global, input: &[u8], image: F) -> Planned<F>
 /// Reads a script to its end, runs it on an image, and plans what is to be printed. Words and script are read before the image is opened.
 pub fn plan_run<S: Source, F: Flash>(alloc: Global, source: &mut S, image: F) -> Planned<F>
     ensures text { HasPlanValues result.plan → IsText (run_row (told_of F.holds F.size F.fault_count F.moment F.left_since (S.left source.old) image result.image)) (status_of result.plan) (text_of result.plan) }
+    ensures unprinted { IsStreamed result.plan → Runs (told_of F.holds F.size F.fault_count F.moment F.left_since (S.left source.old) image result.image) }
     ensures cause { FailsAt 6 (status_of result.plan) (S.fault_count source.old) (S.fault_count source.new) }
     ensures flash { FlashFails (run_row (told_of F.holds F.size F.fault_count F.moment F.left_since (S.left source.old) image result.image)) (status_of result.plan) (F.fault_count image) (F.fault_count result.image) }
     ensures reads { ReadsInput (run_row (told_of F.holds F.size F.fault_count F.moment F.left_since (S.left source.old) image result.image)) (status_of result.plan) (S.left source.old) (S.left source.new) }

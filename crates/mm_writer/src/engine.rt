@@ -13,7 +13,6 @@ ghost use Rattle.var_types.specs.declared.reply.Reply.TheVariants.{Set as SetRep
 ghost use Rattle.var_types.specs.declared.reply.SetReply.TheVariants.{Ok as Changed, Device as DeviceReplied};
 ghost use Rattle.var_types.specs.DeviceErrors.{IsNonVolatileChange};
 ghost use Rattle.var_types.specs.declared.store.Store.TheVariants.{NonVolatile, Volatile};
-ghost use Rattle.var_types.specs.Layout.{image_size};
 ghost use Rattle.var_types.specs.Reading.{kept_bytes, set_key};
 ghost use Rattle.var_types.specs.Set.{changed, decision, set_step};
 ghost use Rattle.var_types.specs.State.{stored_at};
@@ -76,7 +75,6 @@ impl<F: Flash> Engine<F> {
         ensures consistent { IsConsistent self.now.1.1 }
         ensures sizes { HaveSizes self.now.1.1.stores }
         ensures kept { self.now.1.0 ≡ None → IfSome (F.holds self.now.0) (IsKeptBy self.now.1.1) }
-        ensures size { F.size self.now.0 ≡ image_size }
     {
         EngineView {
             non_volatile: region_in(Store::NonVolatile, self.store.mirror()),

@@ -4,6 +4,8 @@
 mod asked_plan;
 mod content;
 mod fault_lines;
+#[cfg(test)]
+mod hostile_tests;
 mod image_file;
 mod image_name;
 mod image_plan;
@@ -20,6 +22,8 @@ mod print;
 mod program;
 #[cfg(test)]
 mod program_tests;
+#[cfg(test)]
+mod random;
 mod replies;
 #[cfg(test)]
 mod reply_tests;

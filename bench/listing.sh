@@ -69,8 +69,8 @@ def main():
             checking = least([program, "check"], file.name)
         worst = max(worst, listing / copy)
         most = max(most, checking / listing)
-        print(f"{name}: checking {checking * 1000:.2f} ms, {checking / listing:.2f} times the listing")
         print(f"{name}: copying {copy * 1000:.2f} ms, listing {listing * 1000:.2f} ms, {listing / copy:.2f} times ({len(listed)} bytes)")
+        print(f"{name}: checking {checking * 1000:.2f} ms, {checking / copy:.2f} times the copying, {checking / listing:.2f} times the listing")
     print(f"at most {worst:.2f} times the time of copying (at most 3)")
     print(f"a check takes at most {most:.2f} times a listing (at most 1.5)")
     if worst > 3 or most > 1.5:

@@ -1,5 +1,5 @@
 -- A live record's copy is a piece, and so is a new record.
-use Rattle.std.proofs.Common.{◌≡◌, ℕ, ◌+◌, ◌*◌, ◌-◌, ◌≤◌, ◌<◌, ◌==◌, ◌||◌, not, Bool, true, false, List, [], ◌∷◌, ◌++◌, length, take, drop, replicate, refl, sym, ap, subst, ◌∙◌, arith, append_assoc, length-append, length-drop, length-take-le, Some}
+use Rattle.std.proofs.Common.{◌≡◌, ℕ, ◌+◌, ◌*◌, ◌-◌, ◌≤◌, not, Bool, true, false, List, [], ◌∷◌, ◌++◌, length, take, drop, refl, sym, ap, ◌∙◌, arith, append_assoc, length-append, length-drop, length-take-le}
 use Rattle.std.proofs.lemmas.List.{drop-append-le, drop-drop, drop-take, length-replicate, take-append-le, take-take}
 use Rattle.var_header.proofs.Fronts.{same_header}
 use Rattle.var_header.proofs.Headers.{read_again, start_id_again}
@@ -7,7 +7,7 @@ use Rattle.var_header.specs.declared.header.Header.{Header}
 use Rattle.var_header.specs.Header.{has_start_id, header_bytes, header_of}
 use Rattle.var_types.specs.declared.record.Record.{Record}
 use Rattle.var_types.specs.declared.record_state.RecordState.TheVariants.{Added}
-use Rattle.var_types.specs.Live.{Live, data_bytes, name_bytes, name_in}
+use Rattle.var_types.specs.Live.{Live, data_bytes, name_in}
 use Rattle.var_types.specs.Record.{Authenticated, is_bare, whole_size}
 use Rattle.var_types.specs.Room.{align4}
 use Rattle.var_region.proofs.Appends.{data_stands, name_stands, of_store}
@@ -18,7 +18,7 @@ use Rattle.var_region.proofs.NewRecords.{IsHeader-new, length-new_bytes}
 use Rattle.var_region.proofs.Read.{IsRead}
 use Rattle.var_region.proofs.Stored.{IsStored, live_with}
 use Rattle.var_region.specs.declared.new_record.NewRecord.{NewRecord}
-use Rattle.var_region.specs.NewRecord.{IsNew, IsOfStore, new_body, new_bytes, new_header, new_live, new_record, new_size}
+use Rattle.var_region.specs.NewRecord.{IsNew, IsOfStore, new_body, new_bytes, new_header, new_live, new_size}
 use Rattle.region_compact.specs.Compacted.{copied, live_size}
 use Rattle.region_compact.specs.Replace.{gap}
 use Rattle.region_compact.proofs.Pieces.{IsPiece}

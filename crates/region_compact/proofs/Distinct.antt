@@ -1,10 +1,10 @@
 -- No two of the live records that are kept are of one key.
-use Rattle.std.proofs.Common.{◌≡◌, ℕ, ◌+◌, ◌≤◌, ◌<◌, ◌==◌, ◌&&◌, ◌||◌, not, Bool, true, false, cond, List, [], ◌∷◌, ◌++◌, length, refl, sym, ap, subst, ◌∙◌, arith, eqb-true, Option, Some, None}
+use Rattle.std.proofs.Common.{◌≡◌, ℕ, ◌+◌, ◌≤◌, ◌<◌, ◌&&◌, ◌||◌, not, Bool, true, false, cond, List, [], ◌∷◌, ◌++◌, refl, sym, ap, ◌∙◌, arith, eqb-true, Option, Some, None}
 use Rattle.std.proofs.lemmas.Cmp.{eq_by_cmp_equiv}
 use Rattle.std.proofs.lemmas.List.Folds.{list_any-append}
 use Rattle.std.specs.BTreeMap.{is_at}
 use Rattle.std.specs.Cmp.{Equal-is}
-use Rattle.std.specs.List.{AllByRecursion, list_any}
+use Rattle.std.specs.List.{list_any}
 use Rattle.var_types.proofs.Keys.{key_cmp_total, same_key}
 use Rattle.var_types.proofs.Records.{has_all}
 use Rattle.var_types.specs.Chosen.{chosen, is_of}
@@ -17,7 +17,7 @@ use Rattle.var_types.specs.Region.{Region, region_lives, region_records}
 use Rattle.var_region.proofs.Read.{AreRead, next_onward, place_of, read_all}
 use Rattle.var_region.proofs.Stored.{each_region, stored_of}
 use Rattle.var_region.specs.Found.{is_here}
-use Rattle.var_region.specs.NewRecord.{new_key, new_live}
+use Rattle.var_region.specs.NewRecord.{new_key}
 use Rattle.region_compact.specs.Compacted.{is_kept, kept_lives, kept_of, live_room}
 use Rattle.region_compact.specs.declared.replace.Replace.{Replace}
 use Rattle.region_compact.specs.declared.replace.Replace.TheVariants.{None as Keep, Put, Drop}

@@ -7,3 +7,4 @@ pub mod Distinct
 pub mod Orders
 pub mod MapAfter
 pub mod Needed
+pub mod Censuses

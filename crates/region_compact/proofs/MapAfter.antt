@@ -1,5 +1,5 @@
 -- The map of a compacted region is the map of before with the replacement, and its size is the room of that map.
-use Rattle.std.proofs.Common.{◌≡◌, ℕ, ◌+◌, ◌≤◌, ◌==◌, ◌&&◌, ◌||◌, not, Bool, true, false, cond, List, [], ◌∷◌, ◌++◌, length, refl, sym, ap, subst, ◌∙◌, arith, eqb, eqb-true, eq-eqb, sum_by, Option, Some, None}
+use Rattle.std.proofs.Common.{◌≡◌, ℕ, ◌+◌, ◌==◌, ◌&&◌, ◌||◌, not, Bool, true, false, cond, List, [], ◌∷◌, ◌++◌, length, refl, sym, ap, ◌∙◌, arith, eqb-true, eq-eqb, sum_by, Option, Some, None}
 use Rattle.std.proofs.lemmas.Cmp.{eq_by_cmp_equiv}
 use Rattle.std.proofs.lemmas.Map.{lookup-remove_entry}
 use Rattle.std.proofs.lemmas.Map.Keys.{IsDistinct-from_sorted}
@@ -7,7 +7,7 @@ use Rattle.std.specs.BTreeMap.{insert_entry, is_at}
 use Rattle.std.specs.Cmp.{Equal-is}
 use Rattle.std.specs.List.{AllByRecursion, list_any}
 use Rattle.std.specs.List.Sorted.{IsStrictlySortedBy}
-use Rattle.std.specs.Map.{keys_of, lookup, remove_entry}
+use Rattle.std.specs.Map.{keys_of, lookup}
 use Rattle.std.specs.Option.{option_or}
 use Rattle.var_region.proofs.Read.{read_all, read_of}
 use Rattle.var_region.proofs.Stored.{each_region}
@@ -34,7 +34,7 @@ use Rattle.var_types.specs.Room.{room_of}
 use Rattle.region_compact.specs.Compacted.{is_kept, kept_lives, kept_of, live_room, rooms, size_after}
 use Rattle.region_compact.specs.declared.replace.Replace.{Replace}
 use Rattle.region_compact.specs.declared.replace.Replace.TheVariants.{None as Keep, Put, Drop}
-use Rattle.region_compact.specs.Laws.{CompactionsKeepTheMap, SizesAreTheRoom, VariablesFit, anew, moved}
+use Rattle.region_compact.specs.Laws.{CompactionsKeepTheMap, SizesAreTheRoom, VariablesFit, moved}
 use Rattle.var_types.specs.Census.{records_room}
 use Rattle.region_compact.proofs.Kept.{kept_within}
 use Rattle.region_compact.specs.Replace.{added_lives, added_room, is_replaced, map_after, replaced_key}
@@ -43,7 +43,7 @@ use Rattle.region_compact.proofs.Orders.{lives_anew}
 use Rattle.region_compact.proofs.StoredSizes.{each_stored}
 
 -- the variable of the first live record of a key
-abbrev first_of : Key → List Live → Option Variable
+abbrev pub first_of : Key → List Live → Option Variable
 first_of key [] = None
 first_of key (live ∷ ls) = cond (is_of key live) (Some live.variable) (first_of key ls)
 
@@ -53,13 +53,13 @@ put_all [] = []
 put_all (live ∷ ls) = insert_entry key_cmp (put_all ls) live.key live.variable
 
 -- entries that were put stand in order
-ordered_all : (ls : List Live) → IsStrictlySortedBy key_cmp (keys_of (put_all ls))
+pub ordered_all : (ls : List Live) → IsStrictlySortedBy key_cmp (keys_of (put_all ls))
 unfolding IsStrictlySortedBy
 ordered_all [] = tt
 ordered_all (live ∷ ls) = sorted-insert_entry key_cmp_total live.key live.variable (put_all ls) (ordered_all ls)
 
 -- a look-up finds the first live record of the key
-look_all : (key : Key) (ls : List Live) → lookup (is_at (key_cmp key)) (put_all ls) ≡ first_of key ls
+pub look_all : (key : Key) (ls : List Live) → lookup (is_at (key_cmp key)) (put_all ls) ≡ first_of key ls
 look_all key [] = refl
 look_all key (live ∷ ls) =
     lookup-insert_entry key_cmp_total live.key live.variable (put_all ls) key ∙ ap (cond (is_of key live) (Some live.variable)) (look_all key ls)
@@ -75,7 +75,7 @@ first-append key (live ∷ fs) ls = by (is_of key live) (first-append key fs ls)
     by false rest = rest
 
 -- of none of the key
-first-none : (key : Key) (ls : List Live) → list_any (is_of key) ls ≡ false → first_of key ls ≡ None
+pub first-none : (key : Key) (ls : List Live) → list_any (is_of key) ls ≡ false → first_of key ls ≡ None
 first-none key [] h = refl
 first-none key (live ∷ ls) h = by (is_of key live) h (first-none key ls)
   where
@@ -95,7 +95,7 @@ first-moved key at (live ∷ ls) = by (is_of key live) refl (first-moved key (at
     by false m rest = ap variable_of (chosen-other key (record live { at = at; state = Added }) (moved (at + live_room live) ls) m) ∙ rest
 
 -- the map of moved live records
-map_moved : (at : ℕ) (ls : List Live) → map_of (moved at ls) ≡ put_all ls
+pub map_moved : (at : ℕ) (ls : List Live) → map_of (moved at ls) ≡ put_all ls
 map_moved at ls =
     let p = map_exact (moved at ls) in
     same_entries key_cmp_total same_key (map_of (moved at ls)) (put_all ls) p.ordered (ordered_all ls)

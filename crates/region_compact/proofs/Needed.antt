@@ -1,5 +1,5 @@
 -- The size of a compacted non-volatile region with a variable put is the room that the set rule needs.
-use Rattle.std.proofs.Common.{◌≡◌, ℕ, ◌+◌, Bool, true, false, cond, List, [], ◌∷◌, refl, sym, ap, ◌∙◌, arith, sum_by, Option, Some, None}
+use Rattle.std.proofs.Common.{◌≡◌, ◌+◌, Bool, true, false, cond, List, [], ◌∷◌, refl, sym, ap, ◌∙◌, arith, sum_by, Option, Some, None}
 use Rattle.std.proofs.lemmas.Cmp.{eq_by_cmp_equiv}
 use Rattle.std.proofs.lemmas.List.Sums.{sum_by-cons}
 use Rattle.std.proofs.lemmas.Map.Entries.{lookup-filter-values, option_filter}
@@ -8,7 +8,6 @@ use Rattle.std.specs.BTreeMap.{is_at}
 use Rattle.std.specs.Cmp.{Equal-is}
 use Rattle.std.specs.List.{filter}
 use Rattle.std.specs.Map.{keys_of, lookup, remove_entry}
-use Rattle.var_region.specs.declared.new_record.NewRecord.{NewRecord}
 use Rattle.var_region.specs.NewRecord.{new_key, new_variable}
 use Rattle.var_types.proofs.Keys.{key_cmp_total, same_key}
 use Rattle.var_types.proofs.Maps.{map_exact}
@@ -18,12 +17,10 @@ use Rattle.var_types.specs.declared.key.Key.{Key}
 use Rattle.var_types.specs.declared.store.Store.TheVariants.{NonVolatile, Volatile}
 use Rattle.var_types.specs.declared.variable.Variable.{Variable}
 use Rattle.var_types.specs.Key.{key_cmp}
-use Rattle.var_types.specs.Region.{Region, map_of, region_lives, region_map}
+use Rattle.var_types.specs.Region.{region_lives, region_map}
 use Rattle.var_types.specs.Room.{in_store, room_in, room_needed, room_of, room_used}
-use Rattle.var_types.specs.State.{State}
-use Rattle.region_compact.specs.Compacted.{size_after}
 use Rattle.region_compact.specs.declared.replace.Replace.TheVariants.{Put}
-use Rattle.region_compact.specs.Laws.{IsStoreOf, SizesAreTheRoomNeeded, is_non_volatile}
+use Rattle.region_compact.specs.Laws.{SizesAreTheRoomNeeded, is_non_volatile}
 use Rattle.region_compact.proofs.MapAfter.{SizesAreTheRoom-all, entry_room}
 
 -- the room of an entry in the non-volatile store

@@ -1,13 +1,11 @@
 -- A compacted region, read again: its live records, in order, and the tail behind them.
-use Rattle.std.proofs.Common.{◌≡◌, ℕ, ◌+◌, ◌%◌, ◌≤◌, ◌<◌, Bool, true, false, cond, List, [], ◌∷◌, ◌++◌, length, take, drop, replicate, refl, sym, ap, subst, ◌∙◌, arith, append_assoc, length-append, Option, Some, None}
-use Rattle.std.proofs.lemmas.List.{append-nil, drop-drop}
-use Rattle.std.specs.List.{AllByRecursion, list_any}
+use Rattle.std.proofs.Common.{◌≡◌, ℕ, ◌+◌, ◌%◌, Bool, true, false, cond, List, [], ◌∷◌, ◌++◌, length, take, drop, replicate, refl, sym, ap, subst, ◌∙◌, arith, append_assoc, length-append, Option}
+use Rattle.std.proofs.lemmas.List.{append-nil}
+use Rattle.std.specs.List.{AllByRecursion}
 use Rattle.var_types.proofs.Records.{has_all}
 use Rattle.var_types.specs.declared.key.Key.{Key}
 use Rattle.var_types.specs.declared.record.Record.{Record}
-use Rattle.var_types.specs.declared.record_state.RecordState.TheVariants.{Added}
-use Rattle.var_types.specs.Chosen.{is_of}
-use Rattle.var_types.specs.Live.{Live, live_of, lives, with_live}
+use Rattle.var_types.specs.Live.{Live, lives}
 use Rattle.var_types.specs.Record.{Authenticated, is_clean, records, tail_from}
 use Rattle.var_types.specs.Region.{Region, is_tail_clean, region_lives, region_records, tail_offset}
 use Rattle.var_region.proofs.Read.{IsRead, read_all, read_of}
@@ -17,11 +15,11 @@ use Rattle.var_region.specs.NewRecord.{new_live}
 use Rattle.region_compact.specs.Compacted.{compacted, copied, copies, is_kept, kept_lives, kept_of, live_room, rooms, size_after}
 use Rattle.region_compact.specs.declared.replace.Replace.{Replace}
 use Rattle.region_compact.specs.declared.replace.Replace.TheVariants.{None as Keep, Put, Drop}
-use Rattle.region_compact.specs.Laws.{CompactionsHaveTheirSize, CompactionsKeepTheOrder, CompactionsLeaveOrder, CopiesKeepTheirHeaders, EachKeyOnce, IsInOrder, anew, moved}
+use Rattle.region_compact.specs.Laws.{CompactionsHaveTheirSize, CompactionsKeepTheOrder, CompactionsLeaveOrder, CopiesKeepTheirHeaders, EachKeyOnce, anew, moved}
 use Rattle.region_compact.specs.Replace.{IsReplaceIn, added, added_lives, added_room, replaced_key}
 use Rattle.region_compact.proofs.Copied.{copied_piece, header_kept, new_piece}
 use Rattle.region_compact.proofs.Distinct.{once_kept}
-use Rattle.region_compact.proofs.Pieces.{ArePieces, IsPiece, Pieces, erased_behind, joined, length_joined, lives_in, lives_joined, rooms_in, tail_joined}
+use Rattle.region_compact.proofs.Pieces.{AreAdded, ArePieces, Pieces, added_joined, erased_behind, joined, length_joined, lives_in, lives_joined, rooms_in, tail_joined}
 use Rattle.region_compact.proofs.StoredSizes.{each_stored}
 
 -- a live record of a region, with its record
@@ -165,6 +163,14 @@ module _ (region : Region) where
           ap (λ bytes. lives Authenticated region.non_volatile (front ++ (bytes ++ replicate left 0xFF)) (records Authenticated (front ++ (bytes ++ replicate left 0xFF)) (length front))) (sym bytes_are)
           ∙ lives_joined region.non_volatile left pieces (are is) front even
           ∙ ap (moved (length front)) lives_are
+
+      -- its records are ADDED ones alone
+      pub added_anew : AreAdded region.non_volatile (anew region replace front left).bytes (region_records (anew region replace front left)) (length (kept ++ added_lives replace))
+      unfolding region_records
+      added_anew =
+          subst (λ bytes. AreAdded region.non_volatile (front ++ (bytes ++ replicate left 0xFF)) (records Authenticated (front ++ (bytes ++ replicate left 0xFF)) (length front)) (length (kept ++ added_lives replace))) bytes_are
+          (subst (λ ls. AreAdded region.non_volatile (front ++ (joined pieces ++ replicate left 0xFF)) (records Authenticated (front ++ (joined pieces ++ replicate left 0xFF)) (length front)) (length ls)) lives_are
+          (added_joined region.non_volatile left pieces (are is) front even))
 
       pub tail_anew : tail_offset (anew region replace front left) ≡ length front + size_after region replace
       unfolding tail_offset region_records

@@ -1,5 +1,5 @@
 -- Pieces of bytes, each of which is read as one ADDED record whatever follows: joined, they are read as these records.
-use Rattle.std.proofs.Common.{◌≡◌, ℕ, zero, suc, ◌+◌, ◌*◌, ◌/◌, ◌%◌, ◌-◌, ◌≤◌, ◌<◌, ◌||◌, not, Bool, true, false, List, [], ◌∷◌, ◌++◌, length, take, drop, replicate, refl, sym, ap, subst, ◌∙◌, arith, append_assoc, length-append, Some, None}
+use Rattle.std.proofs.Common.{◌≡◌, ℕ, suc, ◌+◌, ◌%◌, ◌-◌, ◌||◌, not, Bool, true, false, cond, List, [], ◌∷◌, ◌++◌, length, take, drop, replicate, refl, sym, ap, subst, ◌∙◌, arith, append_assoc, length-append, Some, None}
 use Rattle.std.proofs.lemmas.List.{drop-drop, drop_at, get_or-append_right, get_or-replicate, length-replicate}
 use Rattle.std.specs.Option.{option_map}
 use Rattle.var_header.specs.declared.header.Header.{Header}
@@ -8,13 +8,17 @@ use Rattle.var_types.proofs.Records.{records_first, records_none}
 use Rattle.var_types.specs.Attributes.{has, non_volatile_bit}
 use Rattle.var_types.specs.declared.record.Record.{Record}
 use Rattle.var_types.specs.declared.record_state.RecordState.TheVariants.{Added}
-use Rattle.var_types.specs.Live.{Live, data_bytes, live_of, lives, name_bytes, name_in, with_live}
-use Rattle.var_types.specs.Record.{Authenticated, is_bare, is_clean, next_offset, record_at, records, tail_from, whole_size}
+use Rattle.var_types.specs.Live.{Live, live_of, lives, name_in, with_live}
+use Rattle.var_types.specs.Record.{Authenticated, is_bare, next_offset, record_at, records, tail_from, whole_size}
 use Rattle.var_types.specs.RecordState.{record_state}
 use Rattle.var_types.specs.Room.{align4}
+use Rattle.var_types.proofs.Censuses.{counted}
+use Rattle.var_types.specs.Census.{is_kind, kind_with}
+use Rattle.var_types.specs.declared.record_kind.RecordKind.TheVariants as kind
 use Rattle.var_region.proofs.Read.{whole_read}
 use Rattle.var_region.proofs.Stored.{live_from, live_with}
 use Rattle.var_region.proofs.Tails.{IsErasedFrom, none_erased}
+use Rattle.var_region.specs.Tallies.{count_at, kind_at}
 use Rattle.region_compact.specs.Compacted.{live_room, live_size}
 use Rattle.region_compact.specs.Laws.{moved}
 
@@ -55,6 +59,14 @@ lives_in (p ∷ ps) = p.1 ∷ lives_in ps
 abbrev pub rooms_in : Pieces → ℕ
 rooms_in [] = 0
 rooms_in (p ∷ ps) = live_room p.1 + rooms_in ps
+
+-- some records of a store's bytes are so many, all of them ADDED
+abbrev pub AreAdded : Bool → List ℕ → List Record → ℕ → Type 0
+AreAdded non_volatile bytes rs many = (length rs ≡ many) × (count_at kind.Added non_volatile bytes rs ≡ many)
+
+-- what a test adds to a count
+abbrev tick : Bool → ℕ
+tick b = cond b 1 0
 
 -- a multiple of 4 behind a record
 align_more : (at size : ℕ) → at % 4 ≡ 0 → align4 (at + size) ≡ at + align4 size
@@ -133,6 +145,24 @@ module _ (non_volatile : Bool) (n : ℕ) where
         ∙ ap (λ at. record { at = length head; header = is.header; whole = true } ∷ records Authenticated (head ++ (p.0 ++ behind)) at)
         (piece_next head even p.0 behind p.1 is)
 
+    -- one ADDED record more, from a piece on
+    added_more : (many : ℕ) → AreAdded non_volatile ((head ++ p.0) ++ behind) (records Authenticated ((head ++ p.0) ++ behind) (length (head ++ p.0))) many
+        → AreAdded non_volatile (head ++ ((p.0 ++ joined ps) ++ replicate n 0xFF)) (records Authenticated (head ++ ((p.0 ++ joined ps) ++ replicate n 0xFF)) (length head)) (suc many)
+    added_more many rest =
+        let bytes = head ++ (p.0 ++ behind) in
+        let r : Record = record { at = length head; header = is.header; whole = true } in
+        let later = records Authenticated bytes (length head + live_room p.1) in
+        let others : AreAdded non_volatile bytes later many =
+        subst (λ at. AreAdded non_volatile bytes (records Authenticated bytes at) many) (sym place)
+        (subst (λ all. AreAdded non_volatile all (records Authenticated all (length (head ++ p.0))) many) (sym further) rest) in
+        let mine : is_kind kind.Added (kind_at non_volatile bytes r) ≡ true =
+        ap (λ found. is_kind kind.Added (kind_with found is.header.state)) (piece_live head even p.0 behind p.1 is) in
+        let one : tick (is_kind kind.Added (kind_at non_volatile bytes r)) ≡ 1 = ap tick mine in
+        let more : count_at kind.Added non_volatile bytes (r ∷ later) ≡ suc many =
+        omega (arith, counted (λ found. is_kind kind.Added (kind_at non_volatile bytes found)) r later, one, others.1) in
+        subst (λ all. AreAdded non_volatile all (records Authenticated all (length head)) (suc many)) (sym split)
+        (subst (λ rs. AreAdded non_volatile bytes rs (suc many)) (sym first_records) (ap suc others.0, more))
+
     -- the live records from a piece on
     lives_more : lives Authenticated non_volatile (head ++ ((p.0 ++ joined ps) ++ replicate n 0xFF)) (records Authenticated (head ++ ((p.0 ++ joined ps) ++ replicate n 0xFF)) (length head))
         ≡ record p.1 { at = length head; state = Added } ∷ lives Authenticated non_volatile ((head ++ p.0) ++ behind) (records Authenticated ((head ++ p.0) ++ behind) (length (head ++ p.0)))
@@ -161,6 +191,14 @@ module _ (non_volatile : Bool) (n : ℕ) where
       lives_more p ps are.0 head even
       ∙ ap (λ ls. record p.1 { at = length head; state = Added } ∷ ls) (lives_joined ps are.1 (head ++ p.0) (even_further p ps are.0 head even))
       ∙ ap (λ at. record p.1 { at = length head; state = Added } ∷ moved at (lives_in ps)) (sym (place p ps are.0 head even))
+
+  -- each of their records is ADDED
+  pub added_joined : (ps : Pieces) → ArePieces non_volatile ps → (head : List ℕ) → length head % 4 ≡ 0
+      → AreAdded non_volatile (head ++ (joined ps ++ replicate n 0xFF)) (records Authenticated (head ++ (joined ps ++ replicate n 0xFF)) (length head)) (length (lives_in ps))
+  added_joined [] are head even =
+      subst (λ rs. AreAdded non_volatile (head ++ replicate n 0xFF) rs 0) (sym (records_none Authenticated (head ++ replicate n 0xFF) (length head) (none_behind head))) (refl, refl)
+  added_joined (p ∷ ps) are head even =
+      added_more p ps are.0 head even (length (lives_in ps)) (added_joined ps are.1 (head ++ p.0) (even_further p ps are.0 head even))
 
   -- the tail behind them
   pub tail_joined : (ps : Pieces) → ArePieces non_volatile ps → (head : List ℕ) → length head % 4 ≡ 0

@@ -1,5 +1,5 @@
 -- A live record has the size of its record, and stands within the bytes.
-use Rattle.std.proofs.Common.{◌≡◌, ℕ, suc, ◌+◌, ◌*◌, ◌/◌, ◌%◌, ◌-◌, ◌≤◌, ◌<◌, ◌==◌, Bool, true, false, cond, List, [], ◌∷◌, length, take, drop, refl, sym, ap, subst, ◌∙◌, arith, eqb-true, length-take-le, length-drop, Option, Some, None, Result, Ok, Err}
+use Rattle.std.proofs.Common.{◌≡◌, ℕ, ◌+◌, ◌*◌, ◌%◌, ◌≤◌, ◌==◌, Bool, true, false, cond, List, [], ◌∷◌, length, drop, refl, ap, subst, ◌∙◌, arith, eqb-true, length-take-le, length-drop, Option, Some, None, Result, Ok, Err}
 use Rattle.std.specs.List.{AllByRecursion}
 use Rattle.std.specs.Option.{option_map}
 use Rattle.var_types.proofs.Records.{has_all}
@@ -7,10 +7,10 @@ use Rattle.var_types.specs.declared.name.NameFault.{NameFault}
 use Rattle.var_types.specs.declared.record.Record.{Record}
 use Rattle.var_types.specs.Live.{Live, before_nul, data_bytes, if_named, live_of, lives, name_bytes, name_in, units_in, well_formed, with_live}
 use Rattle.var_types.specs.Name.{name_check}
-use Rattle.var_types.specs.Record.{Authenticated, next_offset, record_at, records, tail_from, whole_size}
+use Rattle.var_types.specs.Record.{Authenticated, next_offset, record_at, records, whole_size}
 use Rattle.var_types.specs.Region.{Region, region_lives, region_records}
 use Rattle.var_region.proofs.LentNames.{length_units}
-use Rattle.var_region.proofs.Read.{AreRead, IsRead, next_behind, next_onward, read_all, read_of}
+use Rattle.var_region.proofs.Read.{AreRead, IsRead, read_all, read_of}
 use Rattle.var_region.proofs.Stored.{IsStored, each_region, stored_of}
 use Rattle.region_compact.specs.Compacted.{live_size}
 

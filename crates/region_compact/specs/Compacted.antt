@@ -1,10 +1,10 @@
 -- A region's bytes after a compaction: the record that counts for each key, ADDED, in the order of the records.
-use Rattle.std.specs.Prelude.{◌≡◌, ℕ, ◌+◌, ◌-◌, ◌&&◌, Bool, not, List, [], ◌∷◌, ◌++◌, length, take, drop, replicate, nat_lt, if◌then◌else◌, Option, Result, Ok, Err}
+use Rattle.std.specs.Prelude.{ℕ, ◌+◌, ◌-◌, ◌&&◌, Bool, not, List, [], ◌∷◌, ◌++◌, length, take, drop, replicate, nat_lt, if◌then◌else◌, Option, Result, Ok, Err}
 use Rattle.var_types.specs.Chosen.{chosen}
 use Rattle.var_types.specs.declared.key.Key.{Key}
 use Rattle.var_types.specs.Live.{Live}
 use Rattle.var_types.specs.Region.{Region, region_lives}
-use Rattle.var_types.specs.Room.{align4, record_size, room_of}
+use Rattle.var_types.specs.Room.{record_size, room_of}
 use Rattle.var_region.specs.Found.{is_here}
 use Rattle.region_compact.specs.declared.no_room.NoRoom.{NoRoom}
 use Rattle.region_compact.specs.declared.replace.Replace.{Replace}

@@ -1,11 +1,10 @@
 -- What a compacted region is read as.
-use Rattle.std.specs.Prelude.{◌≡◌, ◌≤◌, ℕ, ◌+◌, ◌%◌, Bool, true, false, List, [], ◌∷◌, ◌++◌, length, take, drop, replicate, sum_by, filter, ◌==◌}
-use Rattle.std.specs.BTreeMap.{is_at}
+use Rattle.std.specs.Prelude.{◌≡◌, ◌≤◌, ℕ, ◌+◌, ◌%◌, Bool, true, false, List, [], ◌∷◌, ◌++◌, length, take, drop, replicate, sum_by, filter}
 use Rattle.std.specs.List.{AllByRecursion, list_any}
 use Rattle.std.specs.List.Sorted.{IsStrictlySortedBy}
 use Rattle.std.specs.Map.{keys_of}
-use Rattle.var_types.specs.Attributes.{has, non_volatile_bit, store_of}
-use Rattle.var_types.specs.Census.{records_room}
+use Rattle.var_types.specs.Attributes.{has, non_volatile_bit}
+use Rattle.var_types.specs.Census.{Census, census_of, records_room}
 use Rattle.var_types.specs.Chosen.{is_of}
 use Rattle.var_types.specs.declared.key.Key.{Key}
 use Rattle.var_types.specs.declared.record_state.RecordState.TheVariants.{Added}
@@ -18,7 +17,7 @@ use Rattle.var_types.specs.Region.{Region, is_tail_clean, region_lives, region_m
 use Rattle.var_types.specs.Room.{room_needed, room_of}
 use Rattle.var_types.specs.State.{State}
 use Rattle.var_region.specs.declared.new_record.NewRecord.{NewRecord}
-use Rattle.var_region.specs.NewRecord.{IsNew, IsOfStore, new_key, new_variable}
+use Rattle.var_region.specs.NewRecord.{new_key, new_variable}
 use Rattle.region_compact.specs.Compacted.{compacted, copied, kept_lives, live_room, size_after}
 use Rattle.region_compact.specs.declared.replace.Replace.{Replace}
 use Rattle.region_compact.specs.declared.replace.Replace.TheVariants.{Put}
@@ -69,6 +68,18 @@ pub record IsInOrder (region : Region) (tail : ℕ) : Type 0 where
 -- it is in that order, and its tail stands behind its size
 abbrev pub CompactionsLeaveOrder : Type 0
 CompactionsLeaveOrder = OfCompactions (λ region replace front left. IsInOrder (anew region replace front left) (length front + size_after region replace))
+
+-- a census of ADDED records alone, one for each variable (this project's own)
+pub record IsOfAddedAlone (census : Census) : Type 0 where
+  pub records : census.records ≡ census.variables
+  pub added : census.added ≡ census.variables
+  pub transition : census.transition ≡ 0
+  pub deleted : census.deleted ≡ 0
+  pub other : census.other ≡ 0
+
+-- it has as many ADDED records as variables, and no other records
+abbrev pub CompactionsLeaveAddedAlone : Type 0
+CompactionsLeaveAddedAlone = OfCompactions (λ region replace front left. IsOfAddedAlone (census_of (anew region replace front left)))
 
 -- the header of a copied record is as it was behind its first four bytes, MonotonicCount and PubKeyIndex too
 abbrev pub CopiesKeepTheirHeaders : Type 0

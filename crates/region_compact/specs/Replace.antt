@@ -1,12 +1,12 @@
 -- What goes and what comes as a region is compacted.
-use Rattle.std.specs.Prelude.{◌≡◌, ℕ, ◌-◌, Bool, true, false, List, [], ◌∷◌, ◌++◌, length, replicate, Option, Some, None}
+use Rattle.std.specs.Prelude.{ℕ, ◌-◌, Bool, false, List, [], ◌∷◌, ◌++◌, replicate, Option, Some, None}
 use Rattle.std.specs.BTreeMap.{insert_entry, is_at}
 use Rattle.std.specs.Map.{remove_entry}
 use Rattle.var_types.specs.declared.key.Key.{Key}
 use Rattle.var_types.specs.declared.variable.Variable.{Variable}
 use Rattle.var_types.specs.Key.{key_cmp, key_of}
 use Rattle.var_types.specs.Live.{Live}
-use Rattle.var_types.specs.Room.{align4, record_size}
+use Rattle.var_types.specs.Room.{align4}
 use Rattle.var_region.specs.NewRecord.{AreValues, CanWrite, IsNew, IsOfStore, new_bytes, new_key, new_live, new_size, new_variable}
 use Rattle.region_compact.specs.declared.replace.Replace.{Replace}
 use Rattle.region_compact.specs.declared.replace.Replace.TheVariants.{None as Keep, Put, Drop}

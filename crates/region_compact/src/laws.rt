@@ -1,5 +1,6 @@
 //! Laws of compacted regions: each is the contract of a function that does nothing.
-ghost use Rattle.region_compact.specs.Laws.{CompactionsHaveTheirSize, CompactionsKeepTheMap, CompactionsKeepTheOrder, CompactionsLeaveOrder};
+ghost use Rattle.region_compact.specs.Laws.{CompactionsHaveTheirSize, CompactionsKeepTheMap, CompactionsKeepTheOrder, CompactionsLeaveAddedAlone};
+ghost use Rattle.region_compact.specs.Laws.{CompactionsLeaveOrder};
 ghost use Rattle.region_compact.specs.Laws.{CopiesKeepTheirHeaders, SizesAreTheRoom, SizesAreTheRoomNeeded, VariablesFit};
 
 /// A compacted region has the map of before with the replacement, each key's variable once and ADDED, in the order of its record, and a clean tail.
@@ -7,6 +8,11 @@ pub fn compactions_keep_the_map()
     ensures map { CompactionsKeepTheMap }
     ensures records { CompactionsKeepTheOrder }
     ensures clean { CompactionsLeaveOrder }
+{}
+
+/// The census of a compacted region is that of its variables: as many ADDED records, and no other ones.
+pub fn compactions_leave_added_alone()
+    ensures { CompactionsLeaveAddedAlone }
 {}
 
 /// A record that is copied keeps its header behind the first four bytes.

@@ -13,7 +13,8 @@ mod tests;
 
 pub use compaction::compact;
 pub use laws::{
-    compactions_keep_the_map, copies_keep_their_headers, sizes_are_the_room, variables_fit,
+    compactions_keep_the_map, compactions_leave_added_alone, copies_keep_their_headers,
+    sizes_are_the_room, variables_fit,
 };
 pub use no_room::NoRoom;
 pub use replace::Replace;

@@ -18,6 +18,8 @@ mod store_region;
 mod tail;
 mod tally;
 #[cfg(test)]
+mod tally_tests;
+#[cfg(test)]
 mod tests;
 mod walk;
 mod wanted;

@@ -4,15 +4,21 @@ use std::test::Fail;
 use var_header::{Header, VAR_ADDED, write_header};
 use var_types::{Guid, RecordState, Stamp};
 
-const ADDED: u8 = 0x3F;
+pub(crate) const ADDED: u8 = 0x3F;
 
-const IN_TRANSITION: u8 = 0x3E;
+pub(crate) const IN_TRANSITION: u8 = 0x3E;
 
 // The offset of the first record.
-const FIRST: u32 = 28;
+pub(crate) const FIRST: u32 = 28;
 
 // A record of a region: its state, its attributes, the first byte of its GUID (the others are 0), its name's bytes with the NUL, and its data.
-struct Part(u8, u32, u8, &'static [u8], &'static [u8]);
+pub(crate) struct Part(
+    pub(crate) u8,
+    pub(crate) u32,
+    pub(crate) u8,
+    pub(crate) &'static [u8],
+    pub(crate) &'static [u8],
+);
 
 pub(crate) fn guid(first: u8) -> Guid {
     let mut bytes = [0; 16];
@@ -47,7 +53,7 @@ fn push(bytes: &mut Vec<u8>, part: &Part) -> Result<(), AllocError> {
 }
 
 // The bytes of a region of these records.
-fn region_bytes(alloc: Global, parts: &[Part]) -> Result<Vec<u8>, AllocError> {
+pub(crate) fn region_bytes(alloc: Global, parts: &[Part]) -> Result<Vec<u8>, AllocError> {
     let mut bytes = Vec::new(alloc);
     bytes.extend_from_slice(&[0; 28])?;
     for part in parts {
@@ -77,7 +83,7 @@ struct Search {
     why: &'static str,
 }
 
-const NAME: &[u8] = &[0x41, 0, 0, 0];
+pub(crate) const NAME: &[u8] = &[0x41, 0, 0, 0];
 
 const SEARCHES: [Search; 14] = [
     Search {
@@ -418,6 +424,12 @@ fn regions_are_walked(rt: HostRuntime) -> Result<(), Fail> {
         let found = offsets(alloc, &region)?;
         assert_eq!(rt; found.as_slice(), case.records, "{} bytes", case.length);
         assert_eq!(rt; region.tail(), case.tail, "{} bytes", case.length);
+        assert_eq!(rt;
+            region.tally().records as usize,
+            case.records.len(),
+            "{} bytes",
+            case.length
+        );
     }
     Ok(())
 }

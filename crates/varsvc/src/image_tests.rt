@@ -4,10 +4,10 @@ use outside::{MemSink, MemSource};
 use std::alloc::{AllocError, Global};
 use std::test::Fail;
 
-const IMAGE: usize = 131_072;
+pub(crate) const IMAGE: usize = 131_072;
 
 // The first 100 bytes of OVMF's image without variables, as Debian ships it.
-const HEADERS: [u8; 100] = [
+pub(crate) const HEADERS: [u8; 100] = [
     0x00, 0x00, 0x00, 0x00, 0x00, 0x00, 0x00, 0x00, 0x00, 0x00, 0x00, 0x00, 0x00, 0x00, 0x00, 0x00,
     0x8d, 0x2b, 0xf1, 0xff, 0x96, 0x76, 0x8b, 0x4c, 0xa9, 0x85, 0x27, 0x47, 0x07, 0x5b, 0x4f, 0x50,
     0x00, 0x00, 0x02, 0x00, 0x00, 0x00, 0x00, 0x00, 0x5f, 0x46, 0x56, 0x48, 0xff, 0xfe, 0x04, 0x00,
@@ -18,7 +18,7 @@ const HEADERS: [u8; 100] = [
 ];
 
 // A record as firmware has it: the variable BootOrder of the global namespace, attributes 7, the bytes 01 00, ADDED.
-const RECORD: [u8; 82] = [
+pub(crate) const RECORD: [u8; 82] = [
     0xaa, 0x55, 0x3f, 0x00, 0x07, 0x00, 0x00, 0x00, 0x00, 0x00, 0x00, 0x00, 0x00, 0x00, 0x00, 0x00,
     0x00, 0x00, 0x00, 0x00, 0x00, 0x00, 0x00, 0x00, 0x00, 0x00, 0x00, 0x00, 0x00, 0x00, 0x00, 0x00,
     0x00, 0x00, 0x00, 0x00, 0x14, 0x00, 0x00, 0x00, 0x02, 0x00, 0x00, 0x00, 0x61, 0xdf, 0xe4, 0x8b,
@@ -31,21 +31,21 @@ const LISTING: &[u8] =
     b"variables 1\n8be4df61-93ca-11d2-aa0d-00e098032b8c BootOrder 0x00000007 - 0100\nend\n";
 
 // The header of a work area without used slots, and behind it a slot that is pending.
-const MARK: [u8; 16] = *b"VARSVC-FTW-0001\xFE";
+pub(crate) const MARK: [u8; 16] = *b"VARSVC-FTW-0001\xFE";
 
-const PENDING: [u8; 17] = *b"VARSVC-FTW-0001\xFE\xFE";
+pub(crate) const PENDING: [u8; 17] = *b"VARSVC-FTW-0001\xFE\xFE";
 
 /// Bytes that stand at a place of an image.
-type Part<'a> = (usize, &'a [u8]);
+pub(crate) type Part<'a> = (usize, &'a [u8]);
 
-fn put(into: &mut [u8], at: usize, bytes: &[u8]) {
+pub(crate) fn put(into: &mut [u8], at: usize, bytes: &[u8]) {
     for (place, byte) in into.iter_mut().skip(at).zip(bytes) {
         *place = *byte;
     }
 }
 
 // An image of 0xFF with the headers of a store without variables, and other parts over them.
-fn image_of(alloc: Global, parts: &[Part]) -> Result<Vec<u8>, AllocError> {
+pub(crate) fn image_of(alloc: Global, parts: &[Part]) -> Result<Vec<u8>, AllocError> {
     let mut bytes = vec![in alloc; 0xFFu8; IMAGE]?;
     put(&mut bytes, 0, &HEADERS);
     for (at, part) in parts {
@@ -154,12 +154,14 @@ fn images_are_refused_by_their_fields(rt: HostRuntime) -> Result<(), Fail> {
         ((93, &[0xfc]), "image store 93\n"),
     ];
     for (part, line) in cases {
-        let image = image_of(alloc, &[part])?;
-        let left = call(alloc, "list", image, &[], &[])?;
-        assert_eq!(rt; left.status, 4, "{line}");
-        assert_eq!(rt; left.text.as_slice(), line.as_bytes(), "{line}");
-        let after = left.image.expect(&rt, "the image is there");
-        assert_eq!(rt; after.bytes(), image_of(alloc, &[part])?.as_slice());
+        for verb in ["list", "check"] {
+            let image = image_of(alloc, &[part])?;
+            let left = call(alloc, verb, image, &[], &[])?;
+            assert_eq!(rt; left.status, 4, "{verb} {line}");
+            assert_eq!(rt; left.text.as_slice(), line.as_bytes(), "{verb}");
+            let after = left.image.expect(&rt, "the image is there");
+            assert_eq!(rt; after.bytes(), image_of(alloc, &[part])?.as_slice());
+        }
     }
     Ok(())
 }
@@ -242,7 +244,7 @@ const USED: &str = "variables 1 used 84 room 57244\ntail clean\n";
 
 const UNUSED: &str = "variables 0 used 0 room 57244\ntail clean\n";
 
-const CHECKED: [(Checked, &str); 13] = [
+const CHECKED: [(Checked, &str); 18] = [
     (
         (
             &[],
@@ -309,6 +311,59 @@ const CHECKED: [(Checked, &str); 13] = [
             "records 2 added 1 transition 0 deleted 0 other 1\n",
         ),
         USED,
+    ),
+    // two of a key in transition, and an ADDED one with its twin, a volatile one between them
+    (
+        (
+            &[
+                (100, &RECORD),
+                (102, &[0x3e]),
+                (184, &RECORD),
+                (186, &[0x3e]),
+            ],
+            NEW,
+            "records 2 added 0 transition 2 deleted 0 other 0\n",
+        ),
+        USED,
+    ),
+    (
+        (
+            &[
+                (100, &RECORD),
+                (102, &[0x3e]),
+                (184, &RECORD),
+                (188, &[6]),
+                (268, &RECORD),
+            ],
+            NEW,
+            "records 3 added 1 transition 1 deleted 0 other 1\n",
+        ),
+        USED,
+    ),
+    // a record that ends where the volume does, one that ends a byte past it, and such a one behind another
+    (
+        (
+            &[(100, &RECORD), (140, &[0x4c, 0xdf])],
+            NEW,
+            "records 1 added 1 transition 0 deleted 0 other 0\n",
+        ),
+        "variables 1 used 57244 room 57244\ntail clean\n",
+    ),
+    (
+        (
+            &[(100, &RECORD), (140, &[0x4d, 0xdf])],
+            NEW,
+            "records 0 added 0 transition 0 deleted 0 other 0\n",
+        ),
+        "variables 0 used 0 room 57244\ntail dirty\n",
+    ),
+    (
+        (
+            &[(100, &RECORD), (184, &RECORD), (224, &[0xf9, 0xde])],
+            NEW,
+            "records 1 added 1 transition 0 deleted 0 other 0\n",
+        ),
+        "variables 1 used 84 room 57244\ntail dirty\n",
     ),
     // a name of an odd size, behind whose record the old bytes are left
     (
@@ -378,6 +433,20 @@ fn images_are_checked(rt: HostRuntime) -> Result<(), Fail> {
         }
         assert_eq!(rt; left.text.as_slice(), want.as_slice(), "{records}");
     }
+    Ok(())
+}
+
+#[test]
+fn a_full_work_area_is_told(rt: HostRuntime) -> Result<(), Fail> {
+    let alloc = rt.alloc();
+    let mut image = image_of(alloc, &[(61_440, &MARK)])?;
+    for slot in 1..=255usize {
+        put(&mut image, 61_440 + 16 * slot, &[0xfe, 0xfe]);
+    }
+    let left = call(alloc, "check", image, &[], &[])?;
+    assert_eq!(rt; left.status, 0);
+    let want = b"image ok\nstore authenticated\nwork clean 255\nspare blank\nrecords 0 added 0 ";
+    assert!(rt; left.text.starts_with(want.as_slice()));
     Ok(())
 }
 

@@ -5,6 +5,8 @@ mod asked_plan;
 mod content;
 mod desk;
 mod fault_lines;
+#[cfg(test)]
+mod hostile_tests;
 mod image_file;
 mod image_name;
 mod image_plan;
@@ -21,6 +23,8 @@ mod print;
 mod program;
 #[cfg(test)]
 mod program_tests;
+#[cfg(test)]
+mod random;
 mod run_plan;
 #[cfg(test)]
 mod run_tests;

@@ -1,16 +1,15 @@
 -- How long the lines of a script are.
-use Rattle.std.proofs.Common.{◌≡◌, ℕ, ◌+◌, ◌-◌, ◌*◌, ◌/◌, ◌%◌, ◌<◌, ◌≤◌, ◌^◌, zero, suc, Bool, true, false, List, [], ◌∷◌, ◌++◌, length, replicate, eqb, refl, ap, sym, subst, ◌∙◌, arith, length-append, if◌then◌else◌}
-use Rattle.std.specs.Prelude.{◌==◌, nat_lt, decimal}
+use Rattle.std.proofs.Common.{◌≡◌, ℕ, ◌+◌, ◌-◌, ◌*◌, ◌/◌, ◌%◌, ◌<◌, ◌≤◌, zero, suc, Bool, true, false, List, [], ◌∷◌, ◌++◌, length, replicate, eqb, refl, ap, sym, subst, ◌∙◌, arith, length-append, if◌then◌else◌}
+use Rattle.std.specs.Prelude.{◌==◌, nat_lt}
 use Rattle.std.proofs.lemmas.Bool.{ltb-false, ltb-true, ne_eqb}
 use Rattle.std.proofs.lemmas.Bool.Decides.{nat_tests}
 use Rattle.std.proofs.lemmas.Fmt.{length-decimal-le}
 use Rattle.std.proofs.lemmas.List.{length-replicate}
-use Rattle.var_types.specs.Guid.{guid_text}
 use Rattle.var_types.specs.Texts.{attributes_text, bytes_text, is_plain, name_text, unit_text}
 use Rattle.var_types.proofs.Guids.{length-guid_text}
 use Rattle.script_text.specs.Texts.{call_text}
 use Rattle.script_text.proofs.HexTexts.{length-encode_lower}
-use Rattle.image_make.specs.Generated.{bytes_at, first_calls, generated_call, get_at, global_variable, line_text, lines_text, name_at, next_from_front, numbered_name, set_at}
+use Rattle.image_make.specs.Generated.{first_calls, generated_call, get_at, global_variable, line_text, lines_text, next_from_front, numbered_name, set_at}
 use Rattle.image_make.proofs.Fronts.{first_calls-zero, lines_text-first_calls, lines_text-nil}
 
 -- a digit stands for itself

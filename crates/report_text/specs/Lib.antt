@@ -8,3 +8,4 @@ pub mod Held
 pub mod Flow
 pub mod CheckWord
 pub mod Check
+pub mod Sizes

@@ -8,6 +8,7 @@ mod outlet;
 mod page;
 mod part;
 mod rule;
+mod sizes;
 mod stamp;
 mod status;
 #[cfg(test)]
@@ -21,5 +22,6 @@ pub use listing::write_listing;
 pub use outlet::Outlet;
 pub use page::Page;
 pub use part::{Part, write_line, write_parts};
+pub use sizes::{Sizes, variable_sizes};
 pub use status::Status;
 pub use word::Word;

@@ -1,4 +1,4 @@
-use crate::{Outlet, Page, Part, Word, write_line, write_listing};
+use crate::{Outlet, Page, Part, Sizes, Word, variable_sizes, write_line, write_listing};
 use outside::MemSink;
 use std::alloc::{AllocError, Global};
 use std::test::Fail;
@@ -32,6 +32,7 @@ const RECORD: [u8; 82] = [
 
 // A record of a region: its state, its attributes, the first two bytes of its GUID (the others are 0), its name's bytes with the NUL, its
 // stamp, and its data.
+#[derive(Drop)]
 struct Held(
     u8,
     u8,
@@ -263,6 +264,23 @@ fn a_thousand_variables_are_listed(rt: HostRuntime) -> Result<(), Fail> {
     }
     assert_eq!(rt; lines[1001], b"end".as_slice());
     assert!(rt; lines[1002].is_empty());
+    Ok(())
+}
+
+#[test]
+fn sizes_are_counted(rt: HostRuntime) -> Result<(), Fail> {
+    let alloc = rt.alloc();
+    let held = [
+        Held(ADDED, 7, [1, 0], A, &NO_STAMP, &[1, 2, 3]),
+        Held(ADDED, 7, [2, 0], A, &NO_STAMP, &[4]),
+    ];
+    let bytes = region_bytes(alloc, &held)?;
+    let region = over(&bytes, FIRST, true).expect(&rt, "the first is within");
+    let want = Sizes {
+        variables: 2,
+        bytes: 4,
+    };
+    assert_eq!(rt; variable_sizes(alloc, &region)?, want);
     Ok(())
 }
 

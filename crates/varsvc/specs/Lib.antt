@@ -13,3 +13,4 @@ pub mod Images
 pub mod Outcome
 pub mod Plan
 pub mod RunPlan
+pub mod Summary

@@ -100,7 +100,8 @@ impl<F: Flash> Engine<F> {
         ensures untouched { IfErr result (λ fault. fault.why ≢ LoadDevice → Stays IsImageKept F.moment F.left_since F.holds flash fault.flash) }
         ensures done { IfOk result (λ engine. F.fault_count engine.0 ≡ F.fault_count flash) }
         ensures cause { IfErr result (λ fault. HasLoadCause (F.fault_count flash) (F.fault_count fault.flash) (Some fault.why)) }
-        ensures same_size { IfErr result (λ fault. F.size fault.flash ≡ F.size flash) }
+        ensures same_size { IfOk result (λ engine. F.size engine.0 ≡ F.size flash) }
+        ensures same_size_refused { IfErr result (λ fault. F.size fault.flash ≡ F.size flash) }
     {
         match buffers(alloc, limit) {
             Ok((volatile, trace)) => match NvStore::load(alloc, flash) {

@@ -24,7 +24,7 @@ ghost use Rattle.var_types.specs.Stores.{map_in};
 
 use crate::opening::{open_volume, restore};
 use crate::writing::{write_put, write_removal};
-use crate::{LoadFault, LoadWhy, StoreFault, spans};
+use crate::{Lists, LoadFault, LoadWhy, StoreFault, spans};
 use flash_dev::{Device, Flash, IMAGE_BYTES, ImageFault, VOLUME_BYTES};
 use std::alloc::Global;
 use std::marker::Model;
@@ -84,7 +84,8 @@ impl<F: Flash> NvStore<F> {
         ensures untouched { IfErr result (λ fault. fault.why ≢ LoadDevice → Stays IsKept F.moment F.left_since F.holds flash fault.flash) }
         ensures done { IfOk result (λ store. F.fault_count store.0 ≡ F.fault_count flash) }
         ensures cause { IfErr result (λ fault. HasLoadCause (F.fault_count flash) (F.fault_count fault.flash) (Some fault.why)) }
-        ensures same_size { IfErr result (λ fault. F.size fault.flash ≡ F.size flash) }
+        ensures same_size { IfOk result (λ store. F.size store.0 ≡ F.size flash) }
+        ensures same_size_refused { IfErr result (λ fault. F.size fault.flash ≡ F.size flash) }
     {
         match buffers(alloc) {
             Ok((mirror, scratch)) => NvStore::open(flash, mirror, scratch),
@@ -114,7 +115,8 @@ impl<F: Flash> NvStore<F> {
         ensures untouched { IfErr result (λ fault. fault.why ≢ LoadDevice → Stays IsKept F.moment F.left_since F.holds flash fault.flash) }
         ensures done { IfOk result (λ store. F.fault_count store.0 ≡ F.fault_count flash) }
         ensures cause { IfErr result (λ fault. HasLoadCause (F.fault_count flash) (F.fault_count fault.flash) (Some fault.why)) }
-        ensures same_size { IfErr result (λ fault. F.size fault.flash ≡ F.size flash) }
+        ensures same_size { IfOk result (λ store. F.size store.0 ≡ F.size flash) }
+        ensures same_size_refused { IfErr result (λ fault. F.size fault.flash ≡ F.size flash) }
     {
         let mut flash = flash;
         let mut mirror = mirror;
@@ -283,5 +285,15 @@ impl<F: Flash> NvStore<F> {
         ensures within { AreWithin result (length self.now.1.0) }
     {
         spans::remove_spans(Store::NonVolatile, &self.mirror, guid, name)
+    }
+}
+
+impl<F: Lists> NvStore<F> {
+    /// Gives out what the flash has listed.
+    pub fn give_list(&mut self) -> F::List
+        ensures gives { F.gives self.old.0 result self.new.0 }
+        ensures rest { self.new.1 ≡ self.old.1 }
+    {
+        self.flash.give_list()
     }
 }

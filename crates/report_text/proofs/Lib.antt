@@ -2,3 +2,16 @@ pub mod Parts
 pub mod Held
 pub mod Puts
 pub mod RoomUsed
+pub mod Sessions
+pub mod Cut
+pub mod WordBytes
+pub mod SameTexts
+pub mod SameNames
+pub mod SameWords
+pub mod PolicyWords
+pub mod SamePolicies
+pub mod ReplyWords
+pub mod SameReplies
+pub mod SessionLines
+pub mod SameRoutes
+pub mod OneSession

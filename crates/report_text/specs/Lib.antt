@@ -8,4 +8,11 @@ pub mod Held
 pub mod Flow
 pub mod CheckWord
 pub mod Check
+pub mod PolicyReplies
+pub mod Replies
+pub mod Report
+pub mod PolicyValues
+pub mod Values
+pub mod Fitting
+pub mod Session
 pub mod Sizes

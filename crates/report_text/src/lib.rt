@@ -3,10 +3,16 @@
 
 mod check;
 mod check_word;
+mod laws;
 mod listing;
 mod outlet;
 mod page;
 mod part;
+mod policy_replies;
+mod replies;
+#[cfg(test)]
+mod reply_tests;
+mod report;
 mod rule;
 mod sizes;
 mod stamp;
@@ -18,10 +24,12 @@ mod word;
 
 pub use check::{CheckFacts, check_facts, write_check};
 pub use check_word::CheckWord;
+pub use laws::one_report_one_session;
 pub use listing::write_listing;
 pub use outlet::Outlet;
 pub use page::Page;
 pub use part::{Part, write_line, write_parts};
+pub use report::write_session;
 pub use sizes::{Sizes, variable_sizes};
 pub use status::Status;
 pub use word::Word;

@@ -1,3 +1,4 @@
 pub mod Searches
 pub mod Units
 pub mod Merges
+pub mod BufferAnswers

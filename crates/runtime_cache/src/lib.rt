@@ -2,6 +2,7 @@
 #![tactic(auto)]
 
 mod cache;
+mod copies;
 mod get_variable;
 mod laws;
 mod next_variable_name;
@@ -10,6 +11,7 @@ mod search;
 mod tests;
 
 pub use cache::Cache;
+pub use copies::{copied_get, copied_next};
 pub use get_variable::get;
 pub use laws::merged_caches_are_the_stores;
 pub use next_variable_name::next;

@@ -4,15 +4,15 @@
 mod call_cases;
 mod front_cases;
 mod reading;
-mod room_totals;
 mod refuse_if;
 mod room_cases;
+mod room_totals;
 mod rule;
 mod stored_cases;
 #[cfg(test)]
 mod tests;
 mod view;
 
+pub use room_totals::RoomTotals;
 pub use rule::decide;
 pub use view::{Stored, View};
-pub use room_totals::RoomTotals;

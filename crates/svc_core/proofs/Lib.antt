@@ -16,7 +16,6 @@ pub mod Seats
 pub mod Points
 pub mod Steps
 pub mod Firsts
-pub mod BufferAnswers
 pub mod FlashLists
 pub mod Advances
 pub mod Clears

@@ -1,13 +1,19 @@
 -- Where no call fails, what is accepted is done, and what is refused ends with its refusal.
-use Rattle.std.proofs.Common.{◌≡◌, ◌≢◌, ◌⊎◌, ℕ, Bool, false, List, Option, Some, None, Result, Ok, Err, IsOk, IsErr, inl, inr, ⊎_elim, subst, sym, true≢false}
+use Rattle.std.proofs.Common.{◌≡◌, ◌≢◌, ◌⊎◌, ℕ, Bool, false, List, Option, Some, None, Result, Ok, Err, IsOk, IsErr, IfSome, [], ◌∷◌, inl, inr, ⊎_elim, subst, sym, ◌∙◌, true≢false}
 use Rattle.std.proofs.lemmas.Bool.{cases_eq}
 use Rattle.ftw_mount.specs.Mount.{content_geometry}
+use Rattle.script_text.specs.Script.{script_of}
+use Rattle.var_types.specs.Kept.{IsSound}
+use Rattle.var_types.specs.Session.{calls_of}
 use Rattle.varsvc.specs.declared.inspection.Inspection.{Inspection}
+use Rattle.varsvc.specs.declared.inspection.Inspection.TheVariants as inspection
+use Rattle.varsvc.specs.declared.order.Order.{Order}
 use Rattle.varsvc.specs.declared.order.Order.TheVariants as order
 use Rattle.varsvc.specs.declared.usage.UsageFault.{UsageFault}
 use Rattle.varsvc.specs.Images.{Inspects, IsImage, IsNoImage, RefusesList}
-use Rattle.varsvc.specs.Outcome.{CallsAreJudged, Counts, IsCalm, Prints, Row, format_row, inspection_row, run_row, usage_row}
+use Rattle.varsvc.specs.Outcome.{Counts, IsCalm, Prints, Row, format_row, inspection_row, row, run_row, usage_row}
 use Rattle.varsvc.specs.Runs.{IsNoScript, IsScript, RefusesScript, Reports}
+use Rattle.varsvc.specs.Told.{Told}
 
 -- a calm call ends with a text that is done or refused, or is out of memory
 pub record IsJudged (r : Row) (status : ℕ) : Type 0 where
@@ -25,8 +31,8 @@ module _ (r : Row) (counts : Counts) (status : ℕ) (old new : Option (List ℕ)
         text = text;
         ended = ⊎_elim (λ e. inl (e, is.done e))
             (⊎_elim (λ e. inr (inl (e, is.usage e)))
-            (⊎_elim (λ e. inr (inr (inl (e, is.script e))))
-            (⊎_elim (λ e. inr (inr (inr (inl (e, is.image e)))))
+            (⊎_elim (λ e. inr (inr (inl (e, (is.script e).0))))
+            (⊎_elim (λ e. inr (inr (inr (inl (e, (is.image e).0)))))
             (⊎_elim (λ e. absurd (calm.source (is.input e).0 (planned.source.rose e)))
             (⊎_elim (λ e. absurd (calm.flash (is.device e).0 (planned.flash.rose e)))
             (λ e. inr (inr (inr (inr e))))))))) is.known;
@@ -37,17 +43,18 @@ module _ (r : Row) (counts : Counts) (status : ℕ) (old new : Option (List ℕ)
 
 -- the verdict on what is given: what is accepted, and what is refused
 abbrev IsVerdict : Row → ℕ → Type 0
-IsVerdict r status = (r.accepted → (status ≡ 0) ⊎ (status ≡ 8)) × (r.refused → (status ≡ r.refusal) ⊎ (status ≡ 8))
+IsVerdict r status =
+    (r.accepted → (status ≡ 0) ⊎ (status ≡ 8)) × ((refusal : ℕ) → r.refused refusal → (status ≡ refusal) ⊎ (status ≡ 8))
+
+-- nothing is accepted and refused
+not_both : {A E : Type 0} (r : Result A E) → IsErr r → IsOk r → ⊥
+not_both (Ok x) e o = true≢false (sym e)
+not_both (Err x) e o = true≢false (sym o)
 
 -- an input that is accepted is not refused
 no_script : (input : Option (List ℕ)) (text : List ℕ) → IsScript input → RefusesScript input text → ⊥
 no_script None text is refused = is
 no_script (Some bytes) text is refused = true≢false (sym (subst (λ r. IsOk r) refused.1 is))
-
--- an input that is refused is not run
-no_report : (input : Option (List ℕ)) (lacking : Bool) (text : List ℕ) → IsNoScript input → Reports input lacking text → ⊥
-no_report None lacking text is reports = is
-no_report (Some bytes) lacking text is reports = true≢false (sym (subst (λ r. IsErr r) reports.1.script is))
 
 -- an image that is accepted is not refused
 no_refusal : (image : Option (List ℕ)) (size : ℕ) (text : List ℕ) → IsImage image → RefusesList image size text → ⊥
@@ -55,16 +62,47 @@ no_refusal None size text is refused = is
 no_refusal (Some bytes) size text is refused =
     ⊎_elim (λ fault. true≢false (sym (subst (λ r. IsOk r) fault.1.told is.0))) (λ foreign. is.1 foreign.0.told.1) refused
 
+-- an input that is refused is not run
+no_report : (told : Told) (lacking : Bool) (text : List ℕ) → IsNoScript told.input → Reports told lacking text → ⊥
+no_report told lacking text is reports = from told.input is reports.1.script
+  where
+    from : (input : Option (List ℕ)) → IsNoScript input → IfSome input (λ i. script_of i ≡ Ok (calls_of reports.0 ∷ [])) → ⊥
+    from None is script = is
+    from (Some bytes) is script = true≢false (sym (subst (λ r. IsErr r) script is))
+
+-- nor is it accepted
+unread : (input : Option (List ℕ)) → IsNoScript input → IfSome input (λ i. IsOk (script_of i)) → ⊥
+unread None is accepted = is
+unread (Some bytes) is accepted = not_both (script_of bytes) is accepted
+
+-- an image that is refused is not run on
+no_run : (told : Told) (lacking : Bool) (text : List ℕ) → IsNoImage told.image → Reports told lacking text → ⊥
+no_run told lacking text is reports = from told.image is reports.1.accepted
+  where
+    from : (image : Option (List ℕ)) → IsNoImage image → IfSome image (λ bytes. IsOk (content_geometry bytes) × IsSound bytes) → ⊥
+    from None is accepted = is
+    from (Some bytes) is accepted =
+        ⊎_elim (λ refused. not_both (content_geometry bytes) refused accepted.0) (λ foreign. accepted.1 foreign) is
+
 -- an image that is refused is not listed or checked
 no_listing : (what : Inspection) (image : Option (List ℕ)) (size : ℕ) (text : List ℕ) → IsNoImage image → Inspects what image size text → ⊥
 no_listing what None size text is lists = is
 no_listing what (Some bytes) size text is lists =
     ⊎_elim (λ refused. not_both (content_geometry bytes) refused lists.shown.0) (λ foreign. lists.shown.1 foreign) is
-  where
-    not_both : {A E : Type 0} (r : Result A E) → IsErr r → IsOk r → ⊥
-    not_both (Ok x) e o = true≢false (sym e)
-    not_both (Err x) e o = true≢false (sym o)
 
+verdict_run : (told : Told) (status : ℕ) → IsJudged (run_row told) status → IsVerdict (run_row told) status
+verdict_run told status j = (
+  λ is. ⊎_elim (λ h. inl h.0)
+      (⊎_elim (λ h. absurd h.1)
+      (⊎_elim (λ h. absurd (no_script told.input j.text is.0 h.1))
+      (⊎_elim (λ h. absurd (no_refusal told.image told.size j.text is.1 h.1.1)) inr))) j.ended,
+  λ refusal. ⊎_elim
+      (λ is. ⊎_elim (λ h. absurd (no_report told false j.text is.1 h.1))
+      (⊎_elim (λ h. absurd h.1) (⊎_elim (λ h. inl (h.0 ∙ sym is.0)) (⊎_elim (λ h. absurd (unread told.input is.1 h.1.0)) inr))) j.ended)
+      (λ is. ⊎_elim (λ h. absurd (no_run told false j.text is.2 h.1))
+      (⊎_elim (λ h. absurd h.1)
+      (⊎_elim (λ h. absurd (no_script told.input j.text is.1 h.1)) (⊎_elim (λ h. inl (h.0 ∙ sym is.0)) inr))) j.ended),
+)
 verdict_run : (input : Option (List ℕ)) (status : ℕ) → IsJudged (run_row input) status → IsVerdict (run_row input) status
 verdict_run input status j = (
   λ is. ⊎_elim (λ h. inl h.0) (⊎_elim (λ h. absurd h.1) (⊎_elim (λ h. absurd (no_script input j.text is h.1)) (⊎_elim (λ h. absurd h.1) inr))) j.ended,
@@ -75,25 +113,33 @@ verdict_inspection : (what : Inspection) (image : Option (List ℕ)) (size statu
     → IsVerdict (inspection_row what image size) status
 verdict_inspection what image size status j = (
   λ is. ⊎_elim (λ h. inl h.0) (⊎_elim (λ h. absurd h.1) (⊎_elim (λ h. absurd h.1) (⊎_elim (λ h. absurd (no_refusal image size j.text is h.1)) inr))) j.ended,
-  λ is. ⊎_elim (λ h. absurd (no_listing what image size j.text is h.1)) (⊎_elim (λ h. absurd h.1) (⊎_elim (λ h. absurd h.1) (⊎_elim (λ h. inl h.0) inr))) j.ended,
+  λ refusal is.
+      ⊎_elim (λ h. absurd (no_listing what image size j.text is.1 h.1))
+      (⊎_elim (λ h. absurd h.1) (⊎_elim (λ h. absurd h.1) (⊎_elim (λ h. inl (h.0 ∙ sym is.0)) inr))) j.ended,
 )
 
 verdict_format : (size status : ℕ) → IsJudged (format_row size) status → IsVerdict (format_row size) status
 verdict_format size status j = (
   λ is. ⊎_elim (λ h. inl h.0) (⊎_elim (λ h. absurd h.1) (⊎_elim (λ h. absurd h.1) (⊎_elim (λ h. absurd (h.1.0 is)) inr))) j.ended,
-  λ is. ⊎_elim (λ h. absurd (is h.1.0)) (⊎_elim (λ h. absurd h.1) (⊎_elim (λ h. absurd h.1) (⊎_elim (λ h. inl h.0) inr))) j.ended,
+  λ refusal is.
+      ⊎_elim (λ h. absurd (is.1 h.1.0))
+      (⊎_elim (λ h. absurd h.1) (⊎_elim (λ h. absurd h.1) (⊎_elim (λ h. inl (h.0 ∙ sym is.0)) inr))) j.ended,
 )
 
 verdict_usage : (fault : UsageFault) (status : ℕ) → IsJudged (usage_row fault) status → IsVerdict (usage_row fault) status
 verdict_usage fault status j = (
   λ is. absurd is,
-  λ is. ⊎_elim (λ h. absurd h.1) (⊎_elim (λ h. inl h.0) (⊎_elim (λ h. absurd h.1) (⊎_elim (λ h. absurd h.1) inr))) j.ended,
+  λ refusal is.
+      ⊎_elim (λ h. absurd h.1) (⊎_elim (λ h. inl (h.0 ∙ sym is)) (⊎_elim (λ h. absurd h.1) (⊎_elim (λ h. absurd h.1) inr))) j.ended,
 )
 
 -- where no call fails, what is accepted is done, and what is refused ends with its refusal
-pub all_judged : CallsAreJudged
-all_judged (Ok (order.Run name)) input image size counts status old new printed calm = verdict_run input status (judged _ counts status old new printed calm)
-all_judged (Ok (order.List name)) input image size counts status old new printed calm = verdict_inspection _ image size status (judged _ counts status old new printed calm)
-all_judged (Ok (order.Check name)) input image size counts status old new printed calm = verdict_inspection _ image size status (judged _ counts status old new printed calm)
-all_judged (Ok (order.Format name)) input image size counts status old new printed calm = verdict_format size status (judged _ counts status old new printed calm)
-all_judged (Err fault) input image size counts status old new printed calm = verdict_usage fault status (judged _ counts status old new printed calm)
+pub all_judged : (asked : Result Order UsageFault) (told : Told) (counts : Counts) (status : ℕ) (old new : Option (List ℕ))
+    → Prints (row asked told) counts status old new → IsCalm (row asked told) counts → IsVerdict (row asked told) status
+all_judged (Ok (order.Run name)) told counts status old new printed calm = verdict_run told status (judged _ counts status old new printed calm)
+all_judged (Ok (order.List name)) told counts status old new printed calm =
+    verdict_inspection inspection.Listing told.image told.size status (judged _ counts status old new printed calm)
+all_judged (Ok (order.Check name)) told counts status old new printed calm =
+    verdict_inspection inspection.Check told.image told.size status (judged _ counts status old new printed calm)
+all_judged (Ok (order.Format name)) told counts status old new printed calm = verdict_format told.size status (judged _ counts status old new printed calm)
+all_judged (Err fault) told counts status old new printed calm = verdict_usage fault status (judged _ counts status old new printed calm)

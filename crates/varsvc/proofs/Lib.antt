@@ -1,6 +1,6 @@
 pub mod Positions
-pub mod Sessions
-pub mod Stepped
+pub mod Running
+pub mod Closing
 pub mod Inputs
 pub mod Scripts
 pub mod PlannedTexts
@@ -9,17 +9,6 @@ pub mod Runs
 pub mod Volumes
 pub mod Usages
 pub mod Judged
-pub mod Cut
-pub mod WordBytes
-pub mod SameTexts
-pub mod SameNames
-pub mod SameWords
-pub mod PolicyWords
-pub mod SamePolicies
-pub mod ReplyWords
-pub mod SameReplies
-pub mod SessionLines
-pub mod SameRoutes
 pub mod OneSession
 pub mod BlankImages
 pub mod Streams

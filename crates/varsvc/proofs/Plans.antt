@@ -24,14 +24,14 @@ pub planned : (status : ℕ) (line : List ℕ) (start held : Text) (plan : Plan)
 planned status line start held plan is put plans = planned_line status line held plan (subst (λ (s : Text). PutsText s held line) is put) plans
 
 -- the plan of a line has the text that goes with its status
-pub line_text : (r : Row) (status : ℕ) (line : List ℕ) (plan : Plan) → IsText r status line → PlansLine status line plan
+pub line_text : (r : Row) (status : ℕ) (line : List ℕ) (plan : Plan) → IsText r status line → PlansLine status line plan → r.untouched
     → IsText r (status_of plan) (text_of plan)
-line_text r status line (Print s t) is (is_status, is_text) =
+line_text r status line (Print s t) is (is_status, is_text) untouched =
     subst (λ (s : ℕ). IsText r s t) (sym is_status) (subst (λ (t : List ℕ). IsText r status t) (sym is_text) is)
-line_text r status line (Stream streamed) is plans = absurd plans
-line_text r status line InputFault is plans = absurd plans
-line_text r status line DeviceFault is plans = absurd plans
-line_text r status line NoMemory is plans = text_memory r
+line_text r status line (Stream streamed) is plans untouched = absurd plans
+line_text r status line InputFault is plans untouched = absurd plans
+line_text r status line DeviceFault is plans untouched = absurd plans
+line_text r status line NoMemory is plans untouched = text_memory r untouched
 
 -- the plan of a line has another status than one that neither it nor a call out of memory has
 pub other_status : (fault status : ℕ) (line : List ℕ) (plan : Plan) → status ≢ fault → 8 ≢ fault → PlansLine status line plan → status_of plan ≢ fault

@@ -1,114 +1,183 @@
 -- From the plan of a run to the text of its status.
-use Rattle.std.proofs.Common.{◌≡◌, ◌≢◌, ℕ, ◌<◌, ◌≤◌, Bool, true, false, List, [], ◌∷◌, length, max, Option, Some, None, Ok, Err, IfSome, refl, sym, ap, ◌∙◌, subst, inl, inr, ⊎_elim, arith, lit<, if◌then◌else◌, All}
+use Rattle.std.proofs.Common.{◌≡◌, ◌≢◌, ◌⊎◌, ℕ, ◌<◌, ◌≤◌, Bool, true, false, List, [], ◌∷◌, length, Option, Some, None, Result, Ok, Err, IfSome, IsOk, refl, sym, ap, ◌∙◌, subst, inl, inr, ⊎_elim, arith, lit<, if◌then◌else◌, All, ◌||◌}
+use Rattle.std.specs.List.{list_any}
 use Rattle.std.proofs.lemmas.Bool.{cases_lt}
-use Rattle.std.proofs.lemmas.List.{length-map}
 use Rattle.std.proofs.lemmas.List.Elements.{All-cons, All-head, All-nil, All-tail}
+use Rattle.outside.specs.Faults.{HasRisen}
+use Rattle.report_text.specs.Fitting.{IsFitting}
+use Rattle.report_text.specs.Report.{session_text}
+use Rattle.report_text.specs.Session.{report_of}
+use Rattle.report_text.specs.Values.{AnswerHasValues, HaveValues}
 use Rattle.script_text.specs.declared.script_fault.ScriptFault.{ScriptFault}
 use Rattle.script_text.specs.Script.{script_of, most_script_bytes}
+use Rattle.var_trace.specs.Session.{SessionParts, answers_of}
+use Rattle.var_trace.specs.StoresAfter.{history_in}
 use Rattle.var_types.specs.declared.answered.Answered.{Answered}
 use Rattle.var_types.specs.declared.call.Call.{Call}
-use Rattle.var_types.specs.Session.{AreStepped, calls_of}
-use Rattle.var_types.specs.State.{start}
+use Rattle.var_types.specs.History.{Entry}
+use Rattle.var_types.specs.Laws.{RightRepliesFit}
+use Rattle.var_types.specs.Session.{AreRight, history_of}
+use Rattle.var_types.specs.State.{State}
 use Rattle.var_types.specs.Step.{IsOfKind}
-use Rattle.var_types.proofs.ReplyKinds.{IsOfKind-stepped}
 use Rattle.varsvc.specs.declared.plan.Plan.{Plan}
 use Rattle.varsvc.specs.declared.plan.Plan.TheVariants.{Print, Stream, InputFault, DeviceFault, NoMemory}
 use Rattle.varsvc.specs.declared.streamed.Streamed.TheVariants as streamed
-use Rattle.varsvc.specs.Fitting.{IsFitting}
 use Rattle.varsvc.specs.Input.{IsInput, most_read}
-use Rattle.varsvc.specs.Outcome.{IsText, run_row}
-use Rattle.varsvc.specs.Plan.{HasPlanValues, report_status, status_of, text_of}
-use Rattle.varsvc.specs.RunPlan.{PlansRun}
-use Rattle.varsvc.specs.Runs.{IsSessionOf, RefusesScript, Reports, lacks_any, report_of}
-use Rattle.varsvc.specs.Values.{AnswerHasValues}
-use Rattle.varsvc.proofs.PlannedTexts.{text_done, text_lacking, text_memory}
+use Rattle.varsvc.specs.Outcome.{FlashFails, IsText, run_row}
+use Rattle.varsvc.specs.Plan.{HasPlanValues, IsStreamed, PlansLine, report_status, status_of, text_of}
+use Rattle.varsvc.specs.FaultLines.{script_line}
+use Rattle.varsvc.specs.RunPlan.{IsRunOf, PlansRun}
+use Rattle.varsvc.specs.Runs.{LeavesUntouched, RefusesScript, Reports, Runs, SaysSame, WasRun, lacks_any}
+use Rattle.varsvc.specs.Told.{Told}
+use Rattle.varsvc.proofs.PlannedTexts.{text_device, text_done, text_image, text_lacking, text_memory, text_script}
+use Rattle.varsvc.proofs.Plans.{line_text}
 use Rattle.varsvc.proofs.Scripts.{script_of-long, script_of-take}
 
--- a session's report has the text of its status
-session_is_text : (input : List ℕ) (answered : List Answered) → IsSessionOf input answered
-    → IsText (run_row (Some input)) (report_status answered) (report_of answered)
-session_is_text input answered session =
-    elim (lacks_any answered)
-    as (λ (b : Bool). lacks_any answered ≡ b → IsText (run_row (Some input)) (if b then 8 else 0) (report_of answered)) [
-      | true ↦ λ is. text_lacking _ (report_of answered) (inr (answered, session, is, refl))
-      | false ↦ λ is. text_done _ (report_of answered) (answered, session, is, refl)
-    ] refl
+-- ---- replies that fit their calls
 
--- a session's status is no failed read
-other_than_six : (lacking : Bool) (n : ℕ) → n ≡ (if lacking then 8 else 0) → n ≢ 6
-other_than_six true n e = λ six. omega (arith, e, six)
-other_than_six false n e = λ six. omega (arith, e, six)
-
--- the session of the calls of a script
-session_of : (input : List ℕ) (calls : List Call) (answered : List Answered) → script_of input ≡ Ok (calls ∷ []) → calls_of answered ≡ calls
-    → AreStepped (start [] (max (length calls) 1)) answered → All IsFitting answered → IsSessionOf input answered
-session_of input calls answered h same stepped fitting =
-    let count : length calls ≡ length answered = ap length (sym same) ∙ length-map answered (λ a. a.call) in
-    record {
-      script = h ∙ ap (λ (cs : List Call). Ok (cs ∷ [])) (sym same);
-      stepped = subst (λ n. AreStepped (start [] (max n 1)) answered) count stepped;
-      fitting = fitting;
-    }
+-- replies that are right at their places are of their calls' kinds
+kinds : RightRepliesFit → (state : State) (history : List Entry) (processor index : ℕ) (xs : List Answered) → AreRight state history processor index xs
+    → All (λ a. IsOfKind a.call a.reply) xs
+kinds fit state history processor index [] right = All-nil (λ (a : Answered). IsOfKind a.call a.reply)
+kinds fit state history processor index (x ∷ xs) right =
+    All-cons (λ (a : Answered). IsOfKind a.call a.reply) x xs
+    (fit state history x.place processor index x.call x.reply right.0, kinds fit state history processor (index + 1) xs right.1)
 
 -- replies of their calls' kinds that have values
 all_fitting : (xs : List Answered) → All (λ a. IsOfKind a.call a.reply) xs → All AnswerHasValues xs → All IsFitting xs
 all_fitting [] kinds values = All-nil IsFitting
 all_fitting (x ∷ xs) kinds values =
-    All-cons IsFitting x xs (All-head (λ a. IsOfKind a.call a.reply) x xs kinds, All-head AnswerHasValues x xs values)
-    (all_fitting xs (All-tail (λ a. IsOfKind a.call a.reply) x xs kinds) (All-tail AnswerHasValues x xs values))
+    All-cons IsFitting x xs
+    ((All-head (λ (a : Answered). IsOfKind a.call a.reply) x xs kinds, All-head AnswerHasValues x xs values),
+    all_fitting xs (All-tail (λ (a : Answered). IsOfKind a.call a.reply) x xs kinds) (All-tail AnswerHasValues x xs values))
 
--- the plan for the calls of a script has the text of its status, which is no failed read
-pub run_text : (input : List ℕ) (calls : List Call) (plan : Plan) → script_of input ≡ Ok (calls ∷ []) → PlansRun calls plan → HasPlanValues plan
-    → IsText (run_row (Some input)) (status_of plan) (text_of plan)
-run_text input calls (Print s t) h planned values = absurd planned
-run_text input calls (Stream (streamed.Report xs)) h (same, stepped) values =
-    session_is_text input xs (session_of input calls xs h same stepped (all_fitting xs (IsOfKind-stepped _ xs stepped) values))
-run_text input calls (Stream (streamed.Listing content)) h planned values = absurd planned
-run_text input calls InputFault h planned values = absurd planned
-run_text input calls DeviceFault h planned values = absurd planned
-run_text input calls NoMemory h planned values = text_memory (run_row (Some input))
+-- ---- the plan of a run
 
-pub run_status : (calls : List Call) (plan : Plan) → PlansRun calls plan → status_of plan ≢ 6
-run_status calls (Print s t) planned = absurd planned
-run_status calls (Stream (streamed.Report xs)) planned = other_than_six (lacks_any xs) (report_status xs) refl
-run_status calls (Stream (streamed.Listing content)) planned = absurd planned
-run_status calls InputFault planned = absurd planned
-run_status calls DeviceFault planned = absurd planned
-run_status calls NoMemory planned = λ e. omega (arith, e)
+-- the report of a session by its answered calls
+report_is : (session : SessionParts) (xs : List Answered) → answers_of session ≡ xs ∷ [] → history_in session.entries.log ≡ history_of xs
+    → session_text (history_in session.entries.log) (answers_of session) ≡ report_of xs
+report_is session xs answers history =
+    ap (λ (h : List Entry). session_text h (answers_of session)) history ∙ ap (session_text (history_of xs)) answers
+
+-- some reply of one processor's calls is out of memory, or none
+any_one : (xs : List Answered) → list_any lacks_any (xs ∷ []) ≡ lacks_any xs
+any_one xs = one (lacks_any xs)
+  where
+    one : (b : Bool) → (b || false) ≡ b
+    one true = refl
+    one false = refl
+
+module _ (fit : RightRepliesFit) (told : Told) (calls : List Call) (script : IfSome told.input (λ input. script_of input ≡ Ok (calls ∷ []))) where
+  module _ (session : SessionParts) (run : IsRunOf told calls session) where
+    was_run : WasRun told run.answered
+    was_run = record {
+      first = run.first;
+      opened = run.opened;
+      accepted = run.accepted;
+      script =
+          subst (λ (cs : List Call). IfSome told.input (λ input. script_of input ≡ Ok (cs ∷ []))) (sym run.calls_are) script;
+      legal = run.legal;
+      leaves = run.leaves;
+    }
+
+    reports_told : (lacking : Bool) → HaveValues (answers_of session) → lacks_any run.answered ≡ lacking
+        → Reports told lacking (session_text (history_in session.entries.log) (answers_of session))
+    reports_told lacking values lacks = (
+      run.answered,
+      was_run,
+      all_fitting run.answered (kinds fit run.first (history_of run.answered) 0 0 run.answered run.legal.right.0)
+          (All-head (λ (answered : List Answered). All AnswerHasValues answered) run.answered [] (subst HaveValues run.by.answers values)),
+      lacks,
+      report_is session run.answered run.by.answers run.by.history,
+    )
+
+    session_is_text : HaveValues (answers_of session)
+        → IsText (run_row told) (report_status session) (session_text (history_in session.entries.log) (answers_of session))
+    session_is_text values =
+        let same = ap (list_any lacks_any) run.by.answers ∙ any_one run.answered in
+        elim (list_any lacks_any (answers_of session))
+        as (λ (b : Bool). list_any lacks_any (answers_of session) ≡ b
+        → IsText (run_row told) (if b then 8 else 0) (session_text (history_in session.entries.log) (answers_of session))) [
+          | true ↦ λ is. text_lacking (run_row told) _ (inr (reports_told true values (sym same ∙ is)))
+          | false ↦ λ is. text_done (run_row told) _ (reports_told false values (sym same ∙ is))
+        ] refl
+
+  -- a script is accepted
+  accepted : (input : Option (List ℕ)) → IfSome input (λ i. script_of i ≡ Ok (calls ∷ [])) → IfSome input (λ i. IsOk (script_of i))
+  accepted None is = tt
+  accepted (Some bytes) is = subst (λ r. IsOk r) (sym is) refl
+
+  -- the plan for the calls of a script has the text of its status
+  pub run_text : (plan : Plan) → PlansRun told calls plan → HasPlanValues plan → IsText (run_row told) (status_of plan) (text_of plan)
+  run_text (Print s t) (is, refused, untouched) values = subst (λ (n : ℕ). IsText (run_row told) n t) (sym is) (text_image (run_row told) t (accepted told.input script, refused) untouched)
+  run_text (Stream (streamed.Report session)) run values = session_is_text session run values
+  run_text (Stream (streamed.Listing content)) planned values = absurd planned
+  run_text InputFault planned values = absurd planned
+  run_text DeviceFault (left, rose) values = text_device (run_row told) refl left
+  run_text NoMemory untouched values = text_memory (run_row told) untouched
+
+  -- where it is streamed, a session was run
+  pub run_unprinted : (plan : Plan) → PlansRun told calls plan → IsStreamed plan → Runs told
+  run_unprinted (Print s t) planned (streamed, is) = cc
+  run_unprinted (Stream (streamed.Report session)) run is = (run.answered, was_run session run)
+  run_unprinted (Stream (streamed.Listing content)) planned is = absurd planned
+  run_unprinted InputFault planned is = absurd planned
+  run_unprinted DeviceFault planned (streamed, is) = cc
+  run_unprinted NoMemory planned (streamed, is) = cc
+
+-- a session's status is 0 or 8
+other_than : (n other : ℕ) (lacking : Bool) → n ≡ (if lacking then 8 else 0) → other ≢ 0 → other ≢ 8 → n ≢ other
+other_than n other true e none memory = λ is. memory (sym is ∙ e)
+other_than n other false e none memory = λ is. none (sym is ∙ e)
+
+-- it is no failed read
+pub run_status : (told : Told) (calls : List Call) (plan : Plan) → PlansRun told calls plan → status_of plan ≢ 6
+run_status told calls (Print s t) (is, rest) = λ e. omega (arith, is, e)
+run_status told calls (Stream (streamed.Report session)) planned =
+    other_than (report_status session) 6 (list_any lacks_any (answers_of session)) refl (λ e. omega (arith, e)) (λ e. omega (arith, e))
+run_status told calls (Stream (streamed.Listing content)) planned = absurd planned
+run_status told calls InputFault planned = absurd planned
+run_status told calls DeviceFault planned = λ e. omega (arith, e)
+run_status told calls NoMemory planned = λ e. omega (arith, e)
+
+-- and a failed call of the flash where the count of those rose
+pub run_fails : (told : Told) (calls : List Call) (plan : Plan) → PlansRun told calls plan
+    → FlashFails (run_row told) (status_of plan) told.faults told.faults_after
+run_fails told calls plan planned = record { rose = rose plan planned; stands = λ e. cc }
+  where
+    rose : (plan : Plan) → PlansRun told calls plan → status_of plan ≡ 7 → HasRisen told.faults told.faults_after
+    rose (Print s t) (is, rest) e = absurd (omega (arith, is, e))
+    rose (Stream (streamed.Report session)) planned e =
+        absurd (other_than (report_status session) 7 (list_any lacks_any (answers_of session)) refl (λ e. omega (arith, e)) (λ e. omega (arith, e)) e)
+    rose (Stream (streamed.Listing content)) planned e = absurd planned
+    rose InputFault planned e = absurd planned
+    rose DeviceFault planned e = planned.1
+    rose NoMemory planned e = absurd (omega (arith, e))
+
+-- ---- what was read
 
 -- what is read says the same of the script as all that was left
-script_of-input : (left : Option (List ℕ)) (input : List ℕ) → IsInput left input → IfSome left (λ bytes. script_of input ≡ script_of bytes)
+pub says_same : (left : Option (List ℕ)) (input : List ℕ) → IsInput left input → SaysSame left input
 unfolding IsInput
-script_of-input None input h = tt
-script_of-input (Some bytes) input h = ap script_of h ∙ script_of-take most_read bytes (lit< tt)
+says_same None input h = tt
+says_same (Some bytes) input h = sym (ap script_of h ∙ script_of-take most_read bytes (lit< tt))
 
--- and so do the report and the refusal
-reports_left : (left : Option (List ℕ)) (input text : List ℕ) (lacking : Bool) → IfSome left (λ bytes. script_of input ≡ script_of bytes)
-    → Reports (Some input) lacking text → Reports left lacking text
-reports_left None input text lacking same reports = tt
-reports_left (Some bytes) input text lacking same (answered, session, lacks, is) =
-    (answered, record { script = sym same ∙ session.script; stepped = session.stepped; fitting = session.fitting }, lacks, is)
+-- an answer about what was read is one about what was left
+pub of_left : (left : Option (List ℕ)) (input : List ℕ) (answer : Result (List (List Call)) ScriptFault) → SaysSame left input → script_of input ≡ answer
+    → IfSome left (λ bytes. script_of bytes ≡ answer)
+of_left None input answer same is = tt
+of_left (Some bytes) input answer same is = same ∙ is
 
-refuses_left : (left : Option (List ℕ)) (input text : List ℕ) → IfSome left (λ bytes. script_of input ≡ script_of bytes)
-    → RefusesScript (Some input) text → RefusesScript left text
-refuses_left None input text same refused = tt
-refuses_left (Some bytes) input text same (fault, refused, is) = (fault, sym same ∙ refused, is)
-
--- so that the text of a status is that of all that was left
-pub text_of_input : (left : Option (List ℕ)) (input : List ℕ) (status : ℕ) (text : List ℕ) → IsInput left input
-    → IsText (run_row (Some input)) status text → IsText (run_row left) status text
-text_of_input left input status text h is =
-    let same = script_of-input left input h in
-    record {
-      known = is.known;
-      done = λ e. reports_left left input text false same (is.done e);
-      usage = is.usage;
-      script = λ e. refuses_left left input text same (is.script e);
-      image = is.image;
-      input = is.input;
-      device = is.device;
-      memory = λ e. ⊎_elim (λ line. inl line) (λ reports. inr (reports_left left input text true same reports)) (is.memory e);
-    }
+-- the plan of the line for a refused script
+pub refused_text : (told : Told) (fault : ScriptFault) (plan : Plan) → IfSome told.input (λ input. script_of input ≡ Err fault) → LeavesUntouched told
+    → PlansLine 3 (script_line fault) plan → IsText (run_row told) (status_of plan) (text_of plan)
+refused_text told fault plan is untouched plans =
+    line_text (run_row told) 3 (script_line fault) plan
+    (text_script (run_row told) (script_line fault) (from told.input is) untouched) plans untouched
+  where
+    from : (input : Option (List ℕ)) → IfSome input (λ input. script_of input ≡ Err fault) → RefusesScript input (script_line fault)
+    from None is = tt
+    from (Some bytes) is = (fault, is, refl)
 
 -- an input that is a script is shorter than what is read at most
 pub script_is_short : (input : List ℕ) (script : List (List Call)) → script_of input ≡ Ok script → length input < most_read

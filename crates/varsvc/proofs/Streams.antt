@@ -1,15 +1,18 @@
 -- What is printed while it is written, and what a plan comes to.
 use Rattle.std.proofs.Common.{◌≡◌, ◌≢◌, ◌⊎◌, ℕ, Bool, true, false, List, [], ◌∷◌, ◌++◌, length, decimal, flat_map, Option, refl, sym, ◌∙◌, subst, inl, inr, ⊎_elim, append_assoc, arith, if◌then◌else◌, Result, Ok, Err}
+use Rattle.std.specs.List.{list_any}
 use Rattle.report_text.specs.Flow.{Flow, PutsThrough, empty}
 use Rattle.report_text.specs.Line.{line_text}
 use Rattle.report_text.specs.declared.word.Word.TheVariants as word
 use Rattle.report_text.specs.Listing.{listing_text, variable_line}
 use Rattle.report_text.specs.Word.{word_text}
 use Rattle.report_text.proofs.Puts.{puts_part, puts_whole}
+use Rattle.var_trace.specs.Session.{answers_of}
+use Rattle.var_trace.specs.StoresAfter.{history_in}
 use Rattle.var_types.specs.declared.answered.Answered.{Answered}
 use Rattle.var_types.specs.declared.key.Key.{Key}
 use Rattle.var_types.specs.declared.variable.Variable.{Variable}
-use Rattle.var_types.specs.Session.{history_of}
+use Rattle.var_types.specs.History.{Entry}
 use Rattle.var_types.specs.Texts.{spaced}
 use Rattle.varsvc.specs.declared.order.Order.{Order}
 use Rattle.varsvc.specs.declared.order.Order.TheVariants as order
@@ -19,11 +22,12 @@ use Rattle.varsvc.specs.declared.streamed.Streamed.{Streamed}
 use Rattle.varsvc.specs.declared.streamed.Streamed.TheVariants.{Listing, Report}
 use Rattle.varsvc.specs.declared.usage.UsageFault.{UsageFault}
 use Rattle.varsvc.specs.FaultLines.{memory_line}
-use Rattle.varsvc.specs.Outcome.{Counts, FailsAt, IsPlanned, IsText, LeavesImage, Prints, ReadsInput, Row, row}
+use Rattle.varsvc.specs.Outcome.{Counts, FailsAt, FlashFails, IsPlanned, IsText, LeavesImage, Prints, ReadsInput, Row, row}
 use Rattle.varsvc.specs.Plan.{ComesTo, Gains, HasPlanValues, IsOutcome, IsPrintable, IsStreamed, report_status, status_of, streamed_status, streamed_text, text_of}
-use Rattle.varsvc.specs.Report.{entry_line, history_lines, processors_text, session_text}
-use Rattle.varsvc.specs.Runs.{lacks_any, report_of}
-use Rattle.varsvc.proofs.PlannedTexts.{text_memory}
+use Rattle.report_text.specs.Report.{entry_line, history_lines, indexed, processor_lines, session_text}
+use Rattle.varsvc.specs.Runs.{lacks_any}
+use Rattle.varsvc.specs.Told.{Told}
+use Rattle.varsvc.proofs.PlannedTexts.{text_short}
 
 -- the status of what is streamed is 0 or 8
 two_statuses : (lacking : Bool) (n : ℕ) → n ≡ (if lacking then 8 else 0) → (n ≡ 0) ⊎ (n ≡ 8)
@@ -31,7 +35,7 @@ two_statuses true n e = inr e
 two_statuses false n e = inl e
 
 streamed_statuses : (s : Streamed) → (streamed_status s ≡ 0) ⊎ (streamed_status s ≡ 8)
-streamed_statuses (Report answered) = two_statuses (lacks_any answered) (report_status answered) refl
+streamed_statuses (Report session) = two_statuses (list_any lacks_any (answers_of session)) (report_status session) refl
 streamed_statuses (Listing content) = inl refl
 
 other_than : (fault status : ℕ) → fault ≢ 0 → fault ≢ 8 → (status ≡ 0) ⊎ (status ≡ 8) → status ≢ fault
@@ -86,12 +90,12 @@ ended_has_bytes (x ∷ front) rest e = cc
 line_has_bytes : (words : List (List ℕ)) (rest : List ℕ) → line_text words ++ rest ≢ []
 line_has_bytes words rest e = ended_has_bytes (spaced words) rest e
 
-report_has_bytes : (answered : List Answered) → report_of answered ≢ []
+report_has_bytes : (history : List Entry) (processors : List (List Answered)) → session_text history processors ≢ []
 unfolding session_text history_lines
-report_has_bytes answered e =
-    let changes = flat_map entry_line (history_of answered) in
-    let rest = processors_text 0 (answered ∷ []) ++ line_text (word_text word.End ∷ []) in
-    let first = word_text word.History ∷ decimal (length (history_of answered)) ∷ [] in
+report_has_bytes history processors e =
+    let changes = flat_map entry_line history in
+    let rest = indexed processor_lines 0 processors ++ line_text (word_text word.End ∷ []) in
+    let first = word_text word.History ∷ decimal (length history) ∷ [] in
     line_has_bytes first (changes ++ rest) (sym (append_assoc (line_text first) changes rest) ∙ e)
 
 listing_has_bytes : (variables : List (Key × Variable)) → listing_text variables ≢ []
@@ -101,7 +105,7 @@ listing_has_bytes variables e =
     (flat_map variable_line variables ++ line_text (word_text word.End ∷ [])) e
 
 pub streamed_has_bytes : (s : Streamed) → streamed_text s ≢ []
-streamed_has_bytes (Report answered) e = report_has_bytes answered e
+streamed_has_bytes (Report session) e = report_has_bytes (history_in session.entries.log) (answers_of session) e
 streamed_has_bytes (Listing content) e = listing_has_bytes _ e
 
 -- a plan of words, script or image whose text is known is printable
@@ -154,24 +158,44 @@ module _ (r : Row) where
   outcome_same : (s t : ℕ) (line text : List ℕ) → s ≡ t → line ≡ text → IsText r t text → IsText r s line
   outcome_same s t line text is is_text h = subst (λ (n : ℕ). IsText r n line) (sym is) (subst (λ (l : List ℕ). IsText r t l) (sym is_text) h)
 
-  outcome_text : (plan : Plan) (status : ℕ) (text : List ℕ) → (HasPlanValues plan → IsText r (status_of plan) (text_of plan)) → IsOutcome plan status text
-      → IsText r status text
-  outcome_text (Print s t) status text is (same, same_text) = outcome_same status s text t same same_text (is tt)
-  outcome_text (Stream s) status text is (inl (values, same, same_text)) =
+  outcome_text : (plan : Plan) (status : ℕ) (text : List ℕ) → (HasPlanValues plan → IsText r (status_of plan) (text_of plan))
+      → (IsStreamed plan → r.untouched ⊎ r.unprinted) → IsOutcome plan status text → IsText r status text
+  outcome_text (Print s t) status text is short (same, same_text) = outcome_same status s text t same same_text (is tt)
+  outcome_text (Stream s) status text is short (inl (values, same, same_text)) =
       outcome_same status (streamed_status s) text (streamed_text s) same same_text (is values)
-  outcome_text (Stream s) status text is (inr (same, same_text)) = outcome_same status 8 text memory_line same same_text (text_memory r)
-  outcome_text InputFault status text is (same, same_text) = outcome_same status 6 text (text_of InputFault) same same_text (is tt)
-  outcome_text DeviceFault status text is (same, same_text) = outcome_same status 7 text (text_of DeviceFault) same same_text (is tt)
-  outcome_text NoMemory status text is (same, same_text) = outcome_same status 8 text memory_line same same_text (text_memory r)
+  outcome_text (Stream s) status text is short (inr (same, same_text)) =
+      outcome_same status 8 text memory_line same same_text (text_short r (short (s, refl)))
+  outcome_text InputFault status text is short (same, same_text) = outcome_same status 6 text (text_of InputFault) same same_text (is tt)
+  outcome_text DeviceFault status text is short (same, same_text) = outcome_same status 7 text (text_of DeviceFault) same same_text (is tt)
+  outcome_text NoMemory status text is short (same, same_text) = outcome_same status 8 text memory_line same same_text (is tt)
+
+-- a failed call of the flash is told as the plan says
+module _ (r : Row) (before after : ℕ) where
+  flash_streamed : (s : Streamed) (status : ℕ) (text : List ℕ) → ComesTo s status text → FlashFails r (streamed_status s) before after
+      → FlashFails r status before after
+  flash_streamed s status text (inl (values, is, is_text)) fails = subst (λ (n : ℕ). FlashFails r n before after) (sym is) fails
+  flash_streamed s status text (inr (is, is_text)) fails = record {
+    rose = λ e. absurd (omega (arith, e, is));
+    stands = λ silent e. fails.stands silent (other_than 7 (streamed_status s) (λ e. omega (arith, e)) (λ e. omega (arith, e)) (streamed_statuses s));
+  }
+
+  flash_planned : (plan : Plan) (status : ℕ) (text : List ℕ) → IsOutcome plan status text → FlashFails r (status_of plan) before after
+      → FlashFails r status before after
+  flash_planned (Print s t) status text is fails = subst (λ (n : ℕ). FlashFails r n before after) (sym is.0) fails
+  flash_planned (Stream s) status text is fails = flash_streamed s status text is fails
+  flash_planned InputFault status text is fails = subst (λ (n : ℕ). FlashFails r n before after) (sym is.0) fails
+  flash_planned DeviceFault status text is fails = subst (λ (n : ℕ). FlashFails r n before after) (sym is.0) fails
+  flash_planned NoMemory status text is fails = subst (λ (n : ℕ). FlashFails r n before after) (sym is.0) fails
 
 module _ (r : Row) (counts : Counts) (plan : Plan) (status : ℕ) (old new : Option (List ℕ)) (gains : Gains (IsOutcome plan) status old new)
-    (is : HasPlanValues plan → IsText r (status_of plan) (text_of plan)) (source : FailsAt 6 (status_of plan) counts.source_before counts.source_after)
-    (flash : FailsAt 7 (status_of plan) counts.flash_before counts.flash_after) where
+    (is : HasPlanValues plan → IsText r (status_of plan) (text_of plan)) (short : IsStreamed plan → r.untouched ⊎ r.unprinted)
+    (source : FailsAt 6 (status_of plan) counts.source_before counts.source_after)
+    (flash : FlashFails r (status_of plan) counts.flash_before counts.flash_after) where
   planned_outcome : (n : ℕ) (text : List ℕ) → IsOutcome plan n text → IsPlanned r counts n text
   planned_outcome n text outcome = record {
-    is_text = outcome_text r plan n text is outcome;
+    is_text = outcome_text r plan n text is short outcome;
     source = fails_planned 6 counts.source_before counts.source_after (λ e. omega (arith, e)) (λ e. omega (arith, e)) plan n text outcome source;
-    flash = fails_planned 7 counts.flash_before counts.flash_after (λ e. omega (arith, e)) (λ e. omega (arith, e)) plan n text outcome flash;
+    flash = flash_planned r counts.flash_before counts.flash_after plan n text outcome flash;
   }
 
   -- what a plan comes to is printed
@@ -206,13 +230,12 @@ module _ (r : Row) (counts : Counts) (plan : Plan) (status : ℕ) (old new : Opt
   }
 
 -- what prints nothing where all is done has no text then
-pub silent : (asked : Result Order UsageFault) (input image : Option (List ℕ)) (size : ℕ) (text : List ℕ) → (row asked input image size).prints ≡ false
-    → (row asked input image size).output text → text ≡ []
-silent (Ok (order.Run name)) input image size text none out = cc
-silent (Ok (order.List name)) input image size text none out = cc
-silent (Ok (order.Check name)) input image size text none out = cc
-silent (Ok (order.Format name)) input image size text none out = out.1
-silent (Err fault) input image size text none out = cc
+pub silent : (asked : Result Order UsageFault) (told : Told) (text : List ℕ) → (row asked told).prints ≡ false → (row asked told).output text → text ≡ []
+silent (Ok (order.Run name)) told text none out = cc
+silent (Ok (order.List name)) told text none out = cc
+silent (Ok (order.Check name)) told text none out = cc
+silent (Ok (order.Format name)) told text none out = out.1
+silent (Err fault) told text none out = cc
 
 outcome_silent : (plan : Plan) (text : List ℕ) → IsOutcome plan 0 text → text ≡ [] → text_of plan ≡ []
 outcome_silent (Print s t) text is none = sym is.1 ∙ none
@@ -223,12 +246,11 @@ outcome_silent DeviceFault text is none = absurd (omega (arith, is.0))
 outcome_silent NoMemory text is none = absurd (omega (arith, is.0))
 
 -- nor has the plan
-module _ (asked : Result Order UsageFault) (input image : Option (List ℕ)) (size : ℕ) (plan : Plan) (status : ℕ) (old new : Option (List ℕ))
-    (gains : Gains (IsOutcome plan) status old new)
-    (is : HasPlanValues plan → IsText (row asked input image size) (status_of plan) (text_of plan)) where
-  pub silent_plan : (row asked input image size).prints ≡ false → status ≡ 0 → text_of plan ≡ []
+module _ (asked : Result Order UsageFault) (told : Told) (plan : Plan) (status : ℕ) (old new : Option (List ℕ))
+    (gains : Gains (IsOutcome plan) status old new) (is : HasPlanValues plan → IsText (row asked told) (status_of plan) (text_of plan))
+    (short : IsStreamed plan → (row asked told).untouched ⊎ (row asked told).unprinted) where
+  pub silent_plan : (row asked told).prints ≡ false → status ≡ 0 → text_of plan ≡ []
   silent_plan none done =
       let w = gains.whole (λ five. omega (arith, done, five)) in
       let outcome : IsOutcome plan 0 w.0 = subst (λ (n : ℕ). IsOutcome plan n w.0) done w.1 in
-      outcome_silent plan w.0 outcome
-      (silent asked input image size w.0 none ((outcome_text (row asked input image size) plan 0 w.0 is outcome).done refl))
+      outcome_silent plan w.0 outcome (silent asked told w.0 none ((outcome_text (row asked told) plan 0 w.0 is short outcome).done refl))

@@ -71,7 +71,7 @@ pub foreign_text : (what : Inspection) (is : Kept) (bytes : List ℕ) (told : Op
     → IsText (inspection_row what told 131072) (status_of plan) (text_of plan)
 foreign_text what is bytes told plan accepted foreign read plans =
     line_text (inspection_row what told 131072) 4 foreign_line plan
-    (text_image (inspection_row what told 131072) foreign_line (inr (content_foreign is bytes told accepted foreign read, refl))) plans
+    (text_image (inspection_row what told 131072) foreign_line (inr (content_foreign is bytes told accepted foreign read, refl)) tt) plans tt
 
 -- the plan for a fault that isn't the flash's prints its line
 fault_line : (fault : ImageFault) (plan : Plan) → fault ≢ image.Device → PlansFault fault plan → PlansLine 4 (image_line fault) plan
@@ -98,11 +98,11 @@ pub fault_text : (what : Inspection) (is : Kept) (bytes : List ℕ) (fault : Ima
     → IsText (inspection_row what told 131072) (status_of plan) (text_of plan)
 fault_text what is bytes fault told plan other refused read plans =
     line_text (inspection_row what told 131072) 4 (image_line fault) plan
-    (text_image (inspection_row what told 131072) (image_line fault) (inl (fault, content_fault is bytes fault told other refused read, refl)))
-    (fault_line fault plan other plans)
+    (text_image (inspection_row what told 131072) (image_line fault) (inl (fault, content_fault is bytes fault told other refused read, refl)) tt)
+    (fault_line fault plan other plans) tt
 
 -- the image is refused for its length
-size_fault : (told : Option (List ℕ)) (size : ℕ) → size ≢ 131072 → IfSome told (λ cells. length cells ≡ size)
+pub size_fault : (told : Option (List ℕ)) (size : ℕ) → size ≢ 131072 → IfSome told (λ cells. length cells ≡ size)
     → IsFaultOf told size (image.ImageSize size 131072)
 unfolding content_geometry
 size_fault None size other law = record { told = tt; by_length = λ e. refl; is_image = λ e. cc }
@@ -113,7 +113,7 @@ pub size_text : (what : Inspection) (told : Option (List ℕ)) (size : ℕ) (pla
     → PlansLine 4 (image_line (image.ImageSize size 131072)) plan → IsText (inspection_row what told size) (status_of plan) (text_of plan)
 size_text what told size plan other law plans =
     line_text (inspection_row what told size) 4 (image_line (image.ImageSize size 131072)) plan
-    (text_image (inspection_row what told size) (image_line (image.ImageSize size 131072)) (inl (image.ImageSize size 131072, size_fault told size other law, refl))) plans
+    (text_image (inspection_row what told size) (image_line (image.ImageSize size 131072)) (inl (image.ImageSize size 131072, size_fault told size other law, refl)) tt) plans tt
 
 -- what was read of an image
 pub is_read : (is : Kept) (bytes : List ℕ) (told : Option (List ℕ)) → IfSome told (λ cells. length cells ≡ 131072) → IfSome told (Describes is)

@@ -1,5 +1,5 @@
 -- What a call of the program prints and leaves, by what its words ask for and by the status that it ends with.
-use Rattle.std.specs.Prelude.{◌≡◌, ◌≢◌, ◌⊎◌, ℕ, Bool, true, false, List, Option, Result, Ok, Err, IsTrue}
+use Rattle.std.specs.Prelude.{◌≡◌, ◌≢◌, ◌⊎◌, ℕ, Bool, true, false, List, Option, Result, Ok, Err, IfSome, IsOk, IsTrue}
 use Rattle.std.specs.Io.KnownBytes.{Appends, IsAtEnd}
 use Rattle.flash_dev.specs.Blank.{blank_image}
 use Rattle.flash_dev.specs.Formatting.{IsFormatLeft}
@@ -7,6 +7,7 @@ use Rattle.flash_dev.specs.Moments.{Stays}
 use Rattle.flash_dev.specs.Rules.{IsKept, Leaves}
 use Rattle.outside.specs.Faults.{HasRisen}
 use Rattle.outside.specs.Written.{AppendsPart}
+use Rattle.script_text.specs.Script.{script_of}
 use Rattle.var_types.specs.Layout.{image_size}
 use Rattle.varsvc.specs.declared.inspection.Inspection.{Inspection}
 use Rattle.varsvc.specs.declared.inspection.Inspection.TheVariants as inspection
@@ -17,7 +18,8 @@ use Rattle.varsvc.specs.FaultLines.{device_line, input_line, memory_line, usage_
 use Rattle.varsvc.specs.Input.{TakesAtMost, most_read}
 use Rattle.varsvc.specs.Images.{Formats, Inspects, IsImage, IsNoImage, RefusesFormat, RefusesList}
 use Rattle.varsvc.specs.Order.{IsRunOrder}
-use Rattle.varsvc.specs.Runs.{IsNoScript, IsScript, RefusesScript, Reports}
+use Rattle.varsvc.specs.Runs.{IsNoScript, IsScript, LeavesUntouched, LeavesVariables, RefusesScript, Reports, Runs}
+use Rattle.varsvc.specs.Told.{Told, told_of}
 
 -- no text
 abbrev pub NoText : List ℕ → Type 0
@@ -32,34 +34,42 @@ pub record Row : Type 1 where
   pub image : List ℕ → Type 0
   -- the reports that it prints where replies are out of memory
   pub lacking : List ℕ → Type 0
-  -- whether it reads the source, opens the image, and prints anything where all is done
+  -- how the image stands where nothing was done, where a call of the flash failed before anything was, and where all was done but for the
+  -- printing
+  pub untouched : Type 0
+  pub unopened : Type 0
+  pub unprinted : Type 0
+  -- whether it reads the source, opens the image, prints anything where all is done, and may say in a reply that the flash failed
   pub reads : Bool
   pub opens : Bool
   pub prints : Bool
-  -- how the image stands to the one that it was given: where all is done, and at any moment of the call
+  pub replies : Bool
+  -- how the image stands to the one that it was given, unless that is said with the text: where all is done, and at any moment of the call
   pub done : List ℕ → List ℕ → Type 0
   pub leaves : List ℕ → List ℕ → Type 0
-  -- it is given what it accepts, or what it refuses, and the status of that refusal
+  -- it is given what it accepts, or what it refuses with a status
   pub accepted : Type 0
-  pub refused : Type 0
-  pub refusal : ℕ
+  pub refused : ℕ → Type 0
 
--- running a script, as yet without its image
-abbrev pub run_row : Option (List ℕ) → Row
-run_row input = record {
-  output = Reports input false;
+-- running a script on an image
+abbrev pub run_row : Told → Row
+run_row told = record {
+  output = Reports told false;
   usage = NoText;
-  script = RefusesScript input;
-  image = NoText;
-  lacking = Reports input true;
+  script = RefusesScript told.input;
+  image = λ text. IfSome told.input (λ input. IsOk (script_of input)) × RefusesList told.image told.size text;
+  lacking = Reports told true;
+  untouched = LeavesUntouched told;
+  unopened = LeavesVariables told;
+  unprinted = Runs told;
   reads = true;
-  opens = false;
+  opens = true;
   prints = true;
-  done = IsKept;
-  leaves = IsKept;
-  accepted = IsScript input;
-  refused = IsNoScript input;
-  refusal = 3;
+  replies = true;
+  done = λ _ _. Unit {0};
+  leaves = λ _ _. Unit {0};
+  accepted = IsScript told.input × IsImage told.image;
+  refused = λ status. ((status ≡ 3) × IsNoScript told.input) ⊎ ((status ≡ 4) × IsScript told.input × IsNoImage told.image);
 }
 
 -- listing or checking an image
@@ -70,14 +80,17 @@ inspection_row what image size = record {
   script = NoText;
   image = RefusesList image size;
   lacking = NoText;
+  untouched = Unit {0};
+  unopened = Unit {0};
+  unprinted = Unit {0};
   reads = false;
   opens = true;
   prints = true;
+  replies = false;
   done = IsKept;
   leaves = IsKept;
   accepted = IsImage image;
-  refused = IsNoImage image;
-  refusal = 4;
+  refused = λ status. (status ≡ 4) × IsNoImage image;
 }
 
 -- formatting an image
@@ -88,14 +101,17 @@ format_row size = record {
   script = NoText;
   image = RefusesFormat size;
   lacking = NoText;
+  untouched = Unit {0};
+  unopened = Unit {0};
+  unprinted = Unit {0};
   reads = false;
   opens = true;
   prints = false;
+  replies = false;
   done = λ _ left. left ≡ blank_image;
   leaves = IsFormatLeft;
   accepted = size ≡ image_size;
-  refused = size ≢ image_size;
-  refusal = 4;
+  refused = λ status. (status ≡ 4) × (size ≢ image_size);
 }
 
 -- words that are refused
@@ -106,39 +122,53 @@ usage_row fault = record {
   script = NoText;
   image = NoText;
   lacking = NoText;
+  untouched = Unit {0};
+  unopened = Unit {0};
+  unprinted = Unit {0};
   reads = false;
   opens = false;
   prints = true;
+  replies = false;
   done = IsKept;
   leaves = IsKept;
   accepted = ⊥;
-  refused = Unit {0};
-  refusal = 2;
+  refused = λ status. status ≡ 2;
 }
 
--- the table of verbs: what is done, by what the words ask for, what is told of source and image, and the image's length (this project's own)
-abbrev pub row : Result Order UsageFault → Option (List ℕ) → Option (List ℕ) → ℕ → Row
-row (Ok (order.Run name)) input image size = run_row input
-row (Ok (order.List name)) input image size = inspection_row inspection.Listing image size
-row (Ok (order.Check name)) input image size = inspection_row inspection.Check image size
-row (Ok (order.Format name)) input image size = format_row size
-row (Err fault) input image size = usage_row fault
+-- the table of verbs: what is done, by what the words ask for and by what is told of source and image (this project's own)
+abbrev pub row : Result Order UsageFault → Told → Row
+row (Ok (order.Run name)) told = run_row told
+row (Ok (order.List name)) told = inspection_row inspection.Listing told.image told.size
+row (Ok (order.Check name)) told = inspection_row inspection.Check told.image told.size
+row (Ok (order.Format name)) told = format_row told.size
+row (Err fault) told = usage_row fault
+
+-- a call that is out of memory: nothing was done, and the line says so; or all was done, and there is no memory to print it; or replies are out
+-- of memory, and it is printed
+abbrev pub LacksMemory : Row → List ℕ → Type 0
+LacksMemory r text =
+    ((text ≡ memory_line) × (r.untouched ⊎ r.unprinted)) ⊎ r.lacking text
 
 -- the text that goes with a status; a failed write decides the status afterwards, so that this is never 5 (this project's own)
 pub record IsText (r : Row) (status : ℕ) (text : List ℕ) : Type 0 where
   pub known : (status ≡ 0) ⊎ ((status ≡ 2) ⊎ ((status ≡ 3) ⊎ ((status ≡ 4) ⊎ ((status ≡ 6) ⊎ ((status ≡ 7) ⊎ (status ≡ 8))))))
   pub done : status ≡ 0 → r.output text
   pub usage : status ≡ 2 → r.usage text
-  pub script : status ≡ 3 → r.script text
-  pub image : status ≡ 4 → r.image text
-  pub input : status ≡ 6 → IsTrue r.reads × (text ≡ input_line)
-  pub device : status ≡ 7 → IsTrue r.opens × (text ≡ device_line)
-  pub memory : status ≡ 8 → (text ≡ memory_line) ⊎ r.lacking text
+  pub script : status ≡ 3 → r.script text × r.untouched
+  pub image : status ≡ 4 → r.image text × r.untouched
+  pub input : status ≡ 6 → IsTrue r.reads × (text ≡ input_line) × r.untouched
+  pub device : status ≡ 7 → IsTrue r.opens × (text ≡ device_line) × r.unopened
+  pub memory : status ≡ 8 → LacksMemory r text
 
 -- a status comes exactly where a call of one kind failed: then the count of failed calls rose, and else it stands
 pub record FailsAt (fault status before after : ℕ) : Type 0 where
   pub rose : status ≡ fault → HasRisen before after
   pub stands : status ≢ fault → after ≡ before
+
+-- the same of a status of the flash, where no reply may say that the flash failed
+pub record FlashFails (r : Row) (status before after : ℕ) : Type 0 where
+  pub rose : status ≡ 7 → HasRisen before after
+  pub stands : r.replies ≡ false → status ≢ 7 → after ≡ before
 
 -- how often calls of source, sink and flash had failed before a call of the program, and have after it
 pub record Counts : Type 0 where
@@ -153,7 +183,7 @@ pub record Counts : Type 0 where
 pub record IsPlanned (r : Row) (counts : Counts) (status : ℕ) (text : List ℕ) : Type 0 where
   pub is_text : IsText r status text
   pub source : FailsAt 6 status counts.source_before counts.source_after
-  pub flash : FailsAt 7 status counts.flash_before counts.flash_after
+  pub flash : FlashFails r status counts.flash_before counts.flash_after
 
 -- what is printed: the text of the status; or, where the sink failed, a front of the text of a status that was planned
 pub record Prints (r : Row) (counts : Counts) (status : ℕ) (old new : Option (List ℕ)) : Type 0 where
@@ -179,8 +209,8 @@ pub record LeavesImage (r : Row) (status size : ℕ) (old new : Option (List ℕ
 pub record Performs {S K F : Type 0} (left : S → Option (List ℕ)) (read_faults : S → ℕ) (printed : K → Option (List ℕ)) (write_faults : K → ℕ)
     (holds : F → Option (List ℕ)) (size flash_faults moment : F → ℕ) (left_since : F → ℕ → List ℕ → Type 0) (asked : Result Order UsageFault)
     (source source_after : S) (sink sink_after : K) (flash flash_after : F) (status : ℕ) : Type 0 where
-  -- what is printed, with the cause of the status
-  pub prints : Prints (row asked (left source) (holds flash) (size flash)) (record {
+  -- what is printed, with the cause of the status; with a report stands what the run leaves of the image
+  pub prints : Prints (row asked (told_of holds size flash_faults moment left_since (left source) flash flash_after)) (record {
     source_before = read_faults source;
     source_after = read_faults source_after;
     sink_before = write_faults sink;
@@ -189,14 +219,17 @@ pub record Performs {S K F : Type 0} (left : S → Option (List ℕ)) (read_faul
     flash_after = flash_faults flash_after;
   }) status (printed sink) (printed sink_after)
   -- where nothing is to be printed, nothing is written
-  pub quiet : (row asked (left source) (holds flash) (size flash)).prints ≡ false → status ≡ 0 → sink_after ≡ sink
+  pub quiet : (row asked (told_of holds size flash_faults moment left_since (left source) flash flash_after)).prints ≡ false → status ≡ 0
+      → sink_after ≡ sink
   -- how much is read: nothing, but by a run
-  pub reads : ReadsInput (row asked (left source) (holds flash) (size flash)) status (left source) (left source_after)
+  pub reads : ReadsInput (row asked (told_of holds size flash_faults moment left_since (left source) flash flash_after)) status (left source) (left source_after)
   pub unread : ¬ IsRunOrder asked → source_after ≡ source
-  -- what becomes of the image, and what a power loss may leave of it
-  pub leaves : LeavesImage (row asked (left source) (holds flash) (size flash)) status (size flash) (holds flash) (holds flash_after)
-  pub at_any_moment : Stays (row asked (left source) (holds flash) (size flash)).leaves moment left_since holds flash flash_after
-  pub unopened : (row asked (left source) (holds flash) (size flash)).opens ≡ false → flash_after ≡ flash
+  -- what becomes of the image, and what a power loss may leave of it, unless that is said with the text
+  pub leaves : ¬ IsRunOrder asked
+      → LeavesImage (row asked (told_of holds size flash_faults moment left_since (left source) flash flash_after)) status (size flash) (holds flash) (holds flash_after)
+  pub at_any_moment : ¬ IsRunOrder asked
+      → Stays (row asked (told_of holds size flash_faults moment left_since (left source) flash flash_after)).leaves moment left_since holds flash flash_after
+  pub unopened : (row asked (told_of holds size flash_faults moment left_since (left source) flash flash_after)).opens ≡ false → flash_after ≡ flash
   pub same_size : size flash_after ≡ size flash
 
 -- no call of what a verb touches failed
@@ -206,9 +239,11 @@ pub record IsCalm (r : Row) (counts : Counts) : Type 0 where
   pub flash : IsTrue r.opens → ¬ HasRisen counts.flash_before counts.flash_after
 
 -- where no call fails, what is accepted is done, and what is refused ends with its refusal, unless the call is out of memory (this project's own)
-abbrev pub CallsAreJudged : Type 0
-CallsAreJudged =
-    (asked : Result Order UsageFault) (input image : Option (List ℕ)) (size : ℕ) (counts : Counts) (status : ℕ) (old new : Option (List ℕ))
-    → Prints (row asked input image size) counts status old new → IsCalm (row asked input image size) counts
-    → ((row asked input image size).accepted → (status ≡ 0) ⊎ (status ≡ 8))
-    × ((row asked input image size).refused → (status ≡ (row asked input image size).refusal) ⊎ (status ≡ 8))
+abbrev pub CallsAreJudged : {F : Type 0} → (F → Option (List ℕ)) → (F → ℕ) → (F → ℕ) → (F → ℕ) → (F → ℕ → List ℕ → Type 0) → Type 0
+CallsAreJudged {F} holds size fault_count moment left_since =
+    (asked : Result Order UsageFault) (input : Option (List ℕ)) (flash flash_after : F) (counts : Counts) (status : ℕ) (old new : Option (List ℕ))
+    → Prints (row asked (told_of holds size fault_count moment left_since input flash flash_after)) counts status old new
+    → IsCalm (row asked (told_of holds size fault_count moment left_since input flash flash_after)) counts
+    → ((row asked (told_of holds size fault_count moment left_since input flash flash_after)).accepted → (status ≡ 0) ⊎ (status ≡ 8))
+    × ((refusal : ℕ) → (row asked (told_of holds size fault_count moment left_since input flash flash_after)).refused refusal
+    → (status ≡ refusal) ⊎ (status ≡ 8))

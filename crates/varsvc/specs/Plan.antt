@@ -1,5 +1,6 @@
 -- What a call of the program is to print.
-use Rattle.std.specs.Prelude.{◌≡◌, ◌≢◌, ◌⊎◌, ℕ, true, false, List, Option, if◌then◌else◌, All}
+use Rattle.std.specs.Prelude.{◌≡◌, ◌≢◌, ◌⊎◌, ℕ, true, false, List, Option, if◌then◌else◌}
+use Rattle.std.specs.List.{list_any}
 use Rattle.std.specs.Io.KnownBytes.{Appends}
 use Rattle.flash_dev.specs.declared.image_fault.ImageFault.{ImageFault}
 use Rattle.flash_dev.specs.declared.image_fault.ImageFault.TheVariants as image
@@ -7,7 +8,10 @@ use Rattle.outside.specs.Written.{AppendsPart}
 use Rattle.ftw_mount.specs.declared.kept.Kept.{Kept}
 use Rattle.report_text.specs.Check.{check_text, facts_of}
 use Rattle.report_text.specs.Listing.{listing_text}
-use Rattle.var_types.specs.declared.answered.Answered.{Answered}
+use Rattle.report_text.specs.Report.{session_text}
+use Rattle.report_text.specs.Values.{HaveValues}
+use Rattle.var_trace.specs.Session.{SessionParts, answers_of}
+use Rattle.var_trace.specs.StoresAfter.{history_in}
 use Rattle.var_types.specs.Layout.{headers_size}
 use Rattle.var_types.specs.Put.{Text}
 use Rattle.var_types.specs.Record.{Authenticated}
@@ -19,8 +23,7 @@ use Rattle.varsvc.specs.declared.plan.Plan.TheVariants.{Print, Stream, InputFaul
 use Rattle.varsvc.specs.declared.streamed.Streamed.{Streamed}
 use Rattle.varsvc.specs.declared.streamed.Streamed.TheVariants as streamed
 use Rattle.varsvc.specs.FaultLines.{device_line, image_line, input_line, memory_line}
-use Rattle.varsvc.specs.Runs.{lacks_any, report_of}
-use Rattle.varsvc.specs.Values.{AnswerHasValues}
+use Rattle.varsvc.specs.Runs.{lacks_any}
 
 -- the region that a content is, and its listing
 abbrev pub volume_region : List ℕ → Region
@@ -34,21 +37,21 @@ abbrev pub content_text : Inspection → Kept → List ℕ → List ℕ
 content_text inspection.Listing kept content = volume_listing content
 content_text inspection.Check kept content = check_text (facts_of (volume_region content) kept.state kept.blank)
 
--- the status of a session's report
-abbrev pub report_status : List Answered → ℕ
-report_status answered = if lacks_any answered then 8 else 0
+-- the status of a session's report: some reply to a processor is out of memory, or none
+abbrev pub report_status : SessionParts → ℕ
+report_status session = if list_any lacks_any (answers_of session) then 8 else 0
 
 -- what is printed while it is written: its status, its text, and that its parts are values of their types
 abbrev pub streamed_status : Streamed → ℕ
-streamed_status (streamed.Report answered) = report_status answered
+streamed_status (streamed.Report session) = report_status session
 streamed_status (streamed.Listing content) = 0
 
 abbrev pub streamed_text : Streamed → List ℕ
-streamed_text (streamed.Report answered) = report_of answered
+streamed_text (streamed.Report session) = session_text (history_in session.entries.log) (answers_of session)
 streamed_text (streamed.Listing content) = volume_listing content
 
 abbrev pub HasStreamedValues : Streamed → Type 0
-HasStreamedValues (streamed.Report answered) = All AnswerHasValues answered
+HasStreamedValues (streamed.Report session) = HaveValues (answers_of session)
 HasStreamedValues (streamed.Listing content) = Unit {0}
 
 -- the status of a plan, the text that it prints, and that its parts are values of their types

@@ -1,40 +1,93 @@
--- What a run of a script prints.
-use Rattle.std.specs.Prelude.{◌≡◌, ℕ, Bool, List, [], ◌∷◌, length, max, Option, Ok, Err, IsErr, IsOk, IfSome, IsSomeAnd, All}
+-- What a run of a script on an image prints and leaves.
+use Rattle.std.specs.Prelude.{◌≡◌, ◌⊎◌, ℕ, ◌+◌, ◌-◌, ◌^◌, ◌≤◌, Bool, List, [], ◌∷◌, length, filter, max, Option, Ok, Err, IsErr, IsOk, IfSome, IsSomeAnd, All}
 use Rattle.std.specs.List.{list_any}
+use Rattle.ftw_mount.specs.Mount.{content_geometry}
+use Rattle.outside.specs.Faults.{HasRisen}
+use Rattle.report_text.specs.Fitting.{IsFitting}
+use Rattle.report_text.specs.Session.{report_of}
 use Rattle.script_text.specs.declared.script_fault.ScriptFault.{ScriptFault}
 use Rattle.script_text.specs.Script.{script_of}
 use Rattle.var_types.specs.declared.answered.Answered.{Answered}
-use Rattle.var_types.specs.Session.{AreStepped, calls_of, history_of}
-use Rattle.var_types.specs.State.{start}
+use Rattle.var_types.specs.declared.key.Key.{Key}
+use Rattle.var_types.specs.declared.store.Store.TheVariants.{NonVolatile}
+use Rattle.var_types.specs.declared.variable.Variable.{Variable}
+use Rattle.var_types.specs.DeviceErrors.{is_device_error}
+use Rattle.var_types.specs.History.{after}
+use Rattle.var_types.specs.Kept.{IsSound, kept}
+use Rattle.var_types.specs.Session.{IsLegalSession, calls_of, history_of}
+use Rattle.var_types.specs.State.{State, start}
 use Rattle.var_types.specs.Step.{lacks_memory}
+use Rattle.var_types.specs.Stores.{part}
 use Rattle.varsvc.specs.FaultLines.{script_line}
-use Rattle.varsvc.specs.Fitting.{IsFitting}
-use Rattle.varsvc.specs.Report.{session_text}
+use Rattle.varsvc.specs.Told.{Told}
 
--- the session of an input: its script's calls, in order, were stepped through the one-thread service, which starts with no variable and
--- makes as many changes at most as there are calls, at least 1; each reply is of its call's kind, and its parts are values of their types
--- (this project's own)
-pub record IsSessionOf (input : List ℕ) (answered : List Answered) : Type 0 where
-  pub script : script_of input ≡ Ok (calls_of answered ∷ [])
-  pub stepped : AreStepped (start [] (max (length answered) 1)) answered
-  pub fitting : All IsFitting answered
+-- the state from which calls run on an image: the variables that it keeps, and as many changes at most as there are calls, at least 1 (this
+-- project's own)
+abbrev pub start_on : List ℕ → ℕ → State
+start_on image calls = start (kept image) (max calls 1)
+
+-- the non-volatile variables after the first k changes of a session that starts from a state
+abbrev pub variables_at : State → List Answered → ℕ → List (Key × Variable)
+variables_at first answered k = part NonVolatile (after first (history_of answered) k).variables
+
+-- how many replies say that the flash failed
+abbrev pub failures : List Answered → ℕ
+failures answered = length (filter (λ a. is_device_error a.reply) answered)
+
+-- what a run of a session leaves of the image. No call of the flash having failed, the image keeps the non-volatile variables after the whole
+-- history, and a power loss at any moment keeps those after a front of it. There are as many replies at most that say that the flash failed as
+-- calls of it did; where there are none, none did (this project's own)
+pub record LeavesRun (told : Told) (first : State) (answered : List Answered) : Type 0 where
+  pub keeps : ¬ HasRisen told.faults told.faults_after
+      → IfSome told.image (λ image. IsSomeAnd told.after (λ left. kept left ≡ variables_at first answered (length (history_of answered))))
+  pub at_any_moment : ¬ HasRisen told.faults told.faults_after
+      → IfSome told.image (λ image. (left : List ℕ) → told.left left
+      → (k : ℕ) × (k ≤ length (history_of answered)) × (kept left ≡ variables_at first answered k))
+  pub calm : failures answered ≡ 0 → told.faults_after ≡ told.faults
+  pub failed : (told.faults + failures answered ≤ told.faults_after) ⊎ (2 ^ 64 - 1 ≤ told.faults_after)
+
+-- one processor's calls were run on an image that is accepted: they are the script's, in order, and all are answered; it is a legal session from the
+-- variables that the image keeps, its history being the changes of its calls; and the run leaves what it has to (this project's own)
+pub record WasRun (told : Told) (answered : List Answered) : Type 0 where
+  pub first : State
+  pub opened : IfSome told.image (λ image. first ≡ start_on image (length answered))
+  pub accepted : IfSome told.image (λ image. IsOk (content_geometry image) × IsSound image)
+  pub script : IfSome told.input (λ input. script_of input ≡ Ok (calls_of answered ∷ []))
+  pub legal : IsLegalSession first (history_of answered) (answered ∷ [])
+  pub leaves : LeavesRun told first answered
+
+-- the image stays as it is, at each moment too, and no call of the flash failed
+pub record LeavesUntouched (told : Told) : Type 0 where
+  pub same : told.after ≡ told.image
+  pub at_any_moment : IfSome told.image (λ image. (left : List ℕ) → told.left left → left ≡ image)
+  pub calm : told.faults_after ≡ told.faults
+
+-- the variables that the image keeps stay as they are, at each moment too
+pub record LeavesVariables (told : Told) : Type 0 where
+  pub now : IfSome told.image (λ image. IsSomeAnd told.after (λ left. kept left ≡ kept image))
+  pub at_any_moment : IfSome told.image (λ image. (left : List ℕ) → told.left left → kept left ≡ kept image)
 
 -- whether some reply of a session is out of memory
 abbrev pub lacks_any : List Answered → Bool
 lacks_any answered = list_any (λ a. lacks_memory a.call a.reply) answered
 
--- the report of a session of one processor, which makes the history
-abbrev pub report_of : List Answered → List ℕ
-report_of answered = session_text (history_of answered) (answered ∷ [])
+-- this is the report of a session that was run, of which each reply is of its call's kind, of parts that are values of their types; some reply
+-- is out of memory, or none
+abbrev pub Reports : Told → Bool → List ℕ → Type 0
+Reports told lacking text =
+    (answered : List Answered) × WasRun told answered × All IsFitting answered × (lacks_any answered ≡ lacking) × (text ≡ report_of answered)
 
--- this is the report of the session of the input that is told, of which some reply is out of memory, or none
-abbrev pub Reports : Option (List ℕ) → Bool → List ℕ → Type 0
-Reports left lacking text =
-    IfSome left (λ input. (answered : List Answered) × IsSessionOf input answered × (lacks_any answered ≡ lacking) × (text ≡ report_of answered))
+-- a session was run, and nothing is said of what is printed
+abbrev pub Runs : Told → Type 0
+Runs told = (answered : List Answered) × WasRun told answered
 
 -- the input that is told is no script, and this line says why
 abbrev pub RefusesScript : Option (List ℕ) → List ℕ → Type 0
 RefusesScript left text = IfSome left (λ input. (fault : ScriptFault) × (script_of input ≡ Err fault) × (text ≡ script_line fault))
+
+-- what is left of a source, where it is told, says the same of its script as what was read of it
+abbrev pub SaysSame : Option (List ℕ) → List ℕ → Type 0
+SaysSame left input = IfSome left (λ bytes. script_of bytes ≡ script_of input)
 
 -- the input is told, and is a script or none
 abbrev pub IsScript : Option (List ℕ) → Type 0
@@ -43,7 +96,9 @@ IsScript left = IsSomeAnd left (λ input. IsOk (script_of input))
 abbrev pub IsNoScript : Option (List ℕ) → Type 0
 IsNoScript left = IsSomeAnd left (λ input. IsErr (script_of input))
 
--- one text, one session: the sessions of one input that have the same report are the same (this project's own)
+-- one text, one session: sessions of the calls of one script, with replies that fit their calls, that have the same report are the same (this
+-- project's own)
 abbrev pub OneTextOneSession : Type 0
 OneTextOneSession =
-    (input : List ℕ) (xs ys : List Answered) → IsSessionOf input xs → IsSessionOf input ys → report_of xs ≡ report_of ys → xs ≡ ys
+    (input : List ℕ) (xs ys : List Answered) → script_of input ≡ Ok (calls_of xs ∷ []) → script_of input ≡ Ok (calls_of ys ∷ [])
+    → All IsFitting xs → All IsFitting ys → report_of xs ≡ report_of ys → xs ≡ ys

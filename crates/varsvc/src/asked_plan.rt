@@ -1,43 +1,77 @@
 //! What the words ask for is done, and what is to be printed of it is planned.
-ghost use Rattle.std.specs.Prelude.{◌≡◌, false};
+ghost use Rattle.std.specs.Prelude.{◌≡◌, ◌⊎◌, false};
+ghost use Rattle.flash_dev.specs.Formatting.{IsFormatLeft};
 ghost use Rattle.flash_dev.specs.Moments.{Stays};
+ghost use Rattle.flash_dev.specs.Rules.{IsKept};
 ghost use Rattle.varsvc.specs.Order.{IsRunOrder, asked};
-ghost use Rattle.varsvc.specs.Outcome.{FailsAt, IsText, LeavesImage, ReadsInput, row};
+ghost use Rattle.varsvc.specs.Outcome.{FailsAt, FlashFails, IsText, LeavesImage, ReadsInput, format_row, inspection_row, row};
 ghost use Rattle.varsvc.specs.Plan.{HasPlanValues, IsStreamed, status_of, text_of};
+ghost use Rattle.varsvc.specs.Told.{told_of};
 
 use crate::image_plan::{plan_format, plan_inspection};
 use crate::inspection::Inspection;
 use crate::order::Order;
-use crate::plan::{Plan, plan_usage};
+use crate::plan::plan_usage;
+use crate::planned::Planned;
 use crate::run_plan::plan_run;
 use crate::words::read_words;
 use flash_dev::Flash;
 use outside::Source;
 use std::alloc::Global;
 
+fn plan_inspected<F: Flash>(alloc: Global, what: Inspection, image: F) -> Planned<F>
+    ensures text { IsText (inspection_row what (F.holds image) (F.size image)) (status_of result.plan) (text_of result.plan) }
+    ensures cause { FailsAt 7 (status_of result.plan) (F.fault_count image) (F.fault_count result.image) }
+    ensures kept { F.holds result.image ≡ F.holds image }
+    ensures at_any_moment { Stays IsKept F.moment F.left_since F.holds image result.image }
+    ensures size { F.size result.image ≡ F.size image }
+{
+    let mut image = image;
+    let plan = plan_inspection(alloc, what, &mut image);
+    Planned { plan, image }
+}
+
+fn plan_formatted<F: Flash>(alloc: Global, image: F) -> Planned<F>
+    ensures text { IsText (format_row (F.size image)) (status_of result.plan) (text_of result.plan) }
+    ensures cause { FailsAt 7 (status_of result.plan) (F.fault_count image) (F.fault_count result.image) }
+    ensures leaves { LeavesImage (format_row (F.size image)) (status_of result.plan) (F.size image) (F.holds image) (F.holds result.image) }
+    ensures at_any_moment { Stays IsFormatLeft F.moment F.left_since F.holds image result.image }
+    ensures unstreamed { ¬ IsStreamed result.plan }
+    ensures size { F.size result.image ≡ F.size image }
+{
+    let mut image = image;
+    let plan = plan_format(alloc, &mut image);
+    Planned { plan, image }
+}
+
 /// Does what the words ask for, and plans what is to be printed. The words are read once.
 pub fn plan_asked<S: Source, F: Flash>(
     alloc: Global,
     words: &[String],
     script: &mut S,
-    flash: &mut F,
-) -> Plan
-    ensures text { HasPlanValues result → IsText (row (asked words.now) (S.left script.old) (F.holds flash.old) (F.size flash.old)) (status_of result) (text_of result) }
-    ensures source { FailsAt 6 (status_of result) (S.fault_count script.old) (S.fault_count script.new) }
-    ensures flash { FailsAt 7 (status_of result) (F.fault_count flash.old) (F.fault_count flash.new) }
-    ensures reads { ReadsInput (row (asked words.now) (S.left script.old) (F.holds flash.old) (F.size flash.old)) (status_of result) (S.left script.old) (S.left script.new) }
-    ensures leaves { LeavesImage (row (asked words.now) (S.left script.old) (F.holds flash.old) (F.size flash.old)) (status_of result) (F.size flash.old) (F.holds flash.old) (F.holds flash.new) }
-    ensures at_any_moment { Stays (row (asked words.now) (S.left script.old) (F.holds flash.old) (F.size flash.old)).leaves F.moment F.left_since F.holds flash.old flash.new }
-    ensures streamed { IsStreamed result → F.holds flash.new ≡ F.holds flash.old }
+    image: F,
+) -> Planned<F>
+    ensures text { HasPlanValues result.plan → IsText (row (asked words.now) (told_of F.holds F.size F.fault_count F.moment F.left_since (S.left script.old) image result.image)) (status_of result.plan) (text_of result.plan) }
+    ensures unprinted { IsStreamed result.plan → (row (asked words.now) (told_of F.holds F.size F.fault_count F.moment F.left_since (S.left script.old) image result.image)).untouched
+        ⊎ (row (asked words.now) (told_of F.holds F.size F.fault_count F.moment F.left_since (S.left script.old) image result.image)).unprinted }
+    ensures source { FailsAt 6 (status_of result.plan) (S.fault_count script.old) (S.fault_count script.new) }
+    ensures flash { FlashFails (row (asked words.now) (told_of F.holds F.size F.fault_count F.moment F.left_since (S.left script.old) image result.image)) (status_of result.plan) (F.fault_count image) (F.fault_count result.image) }
+    ensures reads { ReadsInput (row (asked words.now) (told_of F.holds F.size F.fault_count F.moment F.left_since (S.left script.old) image result.image)) (status_of result.plan) (S.left script.old) (S.left script.new) }
+    ensures leaves { ¬ IsRunOrder (asked words.now) → LeavesImage (row (asked words.now) (told_of F.holds F.size F.fault_count F.moment F.left_since (S.left script.old) image result.image)) (status_of result.plan) (F.size image) (F.holds image) (F.holds result.image) }
+    ensures at_any_moment { ¬ IsRunOrder (asked words.now) → Stays (row (asked words.now) (told_of F.holds F.size F.fault_count F.moment F.left_since (S.left script.old) image result.image)).leaves F.moment F.left_since F.holds image result.image }
+    ensures streamed { ¬ IsRunOrder (asked words.now) → IsStreamed result.plan → F.holds result.image ≡ F.holds image }
     ensures unread { ¬ IsRunOrder (asked words.now) → script.new ≡ script.old }
-    ensures unopened { (row (asked words.now) (S.left script.old) (F.holds flash.old) (F.size flash.old)).opens ≡ false → flash.new ≡ flash.old }
-    ensures size { F.size flash.new ≡ F.size flash.old }
+    ensures unopened { (row (asked words.now) (told_of F.holds F.size F.fault_count F.moment F.left_since (S.left script.old) image result.image)).opens ≡ false → result.image ≡ image }
+    ensures size { F.size result.image ≡ F.size image }
 {
     match read_words(alloc, words) {
-        Ok(Order::Run { .. }) => plan_run(alloc, script),
-        Ok(Order::List { .. }) => plan_inspection(alloc, Inspection::Listing, flash),
-        Ok(Order::Check { .. }) => plan_inspection(alloc, Inspection::Check, flash),
-        Ok(Order::Format { .. }) => plan_format(alloc, flash),
-        Err(fault) => plan_usage(alloc, fault),
+        Ok(Order::Run { .. }) => plan_run(alloc, script, image),
+        Ok(Order::List { .. }) => plan_inspected(alloc, Inspection::Listing, image),
+        Ok(Order::Check { .. }) => plan_inspected(alloc, Inspection::Check, image),
+        Ok(Order::Format { .. }) => plan_formatted(alloc, image),
+        Err(fault) => Planned {
+            plan: plan_usage(alloc, fault),
+            image,
+        },
     }
 }

@@ -27,7 +27,8 @@ use std::alloc::Global;
 use var_region::Region;
 use var_types::{Bytes, TextBuffer};
 
-fn plan_refused(alloc: Global, fault: ImageFault) -> Plan
+/// Plans the line for a refused image.
+pub(crate) fn plan_refused(alloc: Global, fault: ImageFault) -> Plan
     ensures { PlansLine 4 (image_line fault) result }
 {
     let mut text = TextBuffer::new(alloc);
@@ -44,7 +45,8 @@ fn plan_fault(alloc: Global, fault: ImageFault) -> Plan
     }
 }
 
-fn plan_foreign(alloc: Global) -> Plan
+/// Plans the line for an image of foreign work.
+pub(crate) fn plan_foreign(alloc: Global) -> Plan
     ensures { PlansLine 4 foreign_line result }
 {
     let mut text = TextBuffer::new(alloc);

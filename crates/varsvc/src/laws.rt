@@ -7,14 +7,16 @@ ghost use Rattle.varsvc.specs.Images.{nothing};
 ghost use Rattle.varsvc.specs.Outcome.{CallsAreJudged};
 ghost use Rattle.varsvc.specs.Runs.{OneTextOneSession};
 
+use flash_dev::Flash;
+
 /// A report tells the session that it is of.
 pub fn one_text_one_session()
     ensures { OneTextOneSession }
 {}
 
 /// Where no call of source, sink or flash fails, a call of the program that has memory does what is accepted, and refuses the rest.
-pub fn calls_are_judged()
-    ensures { CallsAreJudged }
+pub fn calls_are_judged<F: Flash>()
+    ensures { CallsAreJudged F.holds F.size F.fault_count F.moment F.left_since }
 {}
 
 /// A blank image keeps no variable, and has no record of any kind.

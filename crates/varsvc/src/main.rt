@@ -1,8 +1,9 @@
-//! The variable services of UEFI on one processor: runs scripts of calls, and lists and formats images of the flash.
+//! The variable services of UEFI on one processor: runs scripts of calls on images of the flash, and lists, checks and formats images.
 #![tactic(auto)]
 
 mod asked_plan;
 mod content;
+mod desk;
 mod fault_lines;
 mod image_file;
 mod image_name;
@@ -15,18 +16,14 @@ mod laws;
 mod order;
 mod parse;
 mod plan;
-mod policy_replies;
+mod planned;
 mod print;
 mod program;
 #[cfg(test)]
 mod program_tests;
-mod replies;
-#[cfg(test)]
-mod reply_tests;
-mod report;
 mod run_plan;
 mod runner;
-mod session;
+mod serving;
 mod streamed;
 mod summary;
 #[cfg(test)]

@@ -6,20 +6,19 @@ ghost use Rattle.report_text.specs.Flow.{PutsThrough, empty};
 ghost use Rattle.varsvc.specs.Outcome.{FailsAt};
 ghost use Rattle.varsvc.specs.declared.streamed.Streamed.TheVariants.{Listing, Report};
 ghost use Rattle.varsvc.specs.Plan.{ComesTo, Gains, IsOutcome, IsPrintable, report_status, text_of};
+ghost use Rattle.varsvc.specs.Runs.{lacks_any};
 
 use crate::content::Content;
 use crate::fault_lines::write_memory_line;
 use crate::plan::Plan;
-use crate::report::write_session;
-use crate::runner::any_lacks_memory;
-use crate::session::Session;
 use crate::streamed::Streamed;
 use flash_dev::HEADERS_BYTES;
 use outside::{Failed, Sink};
-use report_text::{Outlet, Page, write_listing};
+use report_text::{Outlet, Page, write_listing, write_session};
 use std::alloc::Global;
 use var_region::Region;
-use var_types::{Answered, Put};
+use var_trace::{Answers, Session};
+use var_types::Put;
 
 // These lines are constants, so that they are printed also where there is no memory.
 const INPUT_LINE: &[u8] = b"input fault\n";
@@ -44,10 +43,21 @@ fn print_text<K: Sink>(status: u8, text: &[u8], out: &mut K) -> u8
     }
 }
 
-fn report_status(answered: &[Answered]) -> u8
-    ensures { result ≡ report_status answered.now }
+// Whether some call of a processor was out of memory.
+fn lacks_any(answers: &Answers) -> bool
+    ensures { result ≡ lacks_any answers.now.answered }
 {
-    if any_lacks_memory(answered) { 8 } else { 0 }
+    answers.as_slice().iter().any(|a| a.lacks_memory())
+}
+
+fn report_status(session: &Session) -> u8
+    ensures { result ≡ report_status session.now }
+{
+    if session.processors.iter().any(|answers| lacks_any(answers)) {
+        8
+    } else {
+        0
+    }
 }
 
 // Puts the listing of a content's variables, and answers 0; where they take more memory than there is, the line that says so, and 8.
@@ -68,8 +78,8 @@ fn write_variables<P: Put>(alloc: Global, content: &Content, out: &mut P) -> u8
 fn write_report<P: Put>(session: &Session, out: &mut P) -> u8
     ensures { (text : List ℕ) × ComesTo (Report session.now) result text × P.Puts out.old out.new text }
 {
-    write_session(session.answered(), out);
-    report_status(session.answered())
+    write_session(session, out);
+    report_status(session)
 }
 
 fn write_streamed<P: Put>(alloc: Global, streamed: &Streamed, out: &mut P) -> u8

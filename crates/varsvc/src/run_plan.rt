@@ -1,23 +1,32 @@
-//! The running of a script, and what is to be printed of it.
-ghost use Rattle.std.specs.Prelude.{◌≡◌, ◌≢◌, ◌<◌, [], ◌∷◌, length, Some};
+//! The running of a script on an image, and what is to be printed of it.
+ghost use Rattle.std.specs.Prelude.{◌≡◌, ◌≢◌, ◌<◌, ◌≤◌, [], ◌∷◌, length, List, Option, ℕ};
+ghost use Rattle.script_text.specs.Script.{most_calls};
 ghost use Rattle.varsvc.specs.FaultLines.{script_line};
 ghost use Rattle.varsvc.specs.Input.{most_read};
-ghost use Rattle.varsvc.specs.Outcome.{FailsAt, IsText, ReadsInput, run_row};
-ghost use Rattle.varsvc.specs.Plan.{HasPlanValues, PlansLine, status_of, text_of};
+ghost use Rattle.varsvc.specs.Opened.{IsOpened, PlansUnopened};
+ghost use Rattle.varsvc.specs.Outcome.{FailsAt, FlashFails, IsText, ReadsInput, run_row};
+ghost use Rattle.varsvc.specs.Plan.{HasPlanValues, IsStreamed, PlansLine, status_of, text_of};
 ghost use Rattle.varsvc.specs.RunPlan.{PlansRun};
+ghost use Rattle.varsvc.specs.Runs.{Runs, SaysSame};
+ghost use Rattle.varsvc.specs.Told.{told_of};
 
+use crate::desk::Desk;
 use crate::fault_lines::write_script_line;
+use crate::image_plan::{plan_foreign, plan_refused};
 use crate::input::{InputFault, read_input};
 use crate::plan::{Plan, plan_text};
+use crate::planned::Planned;
 use crate::runner::run_calls;
-use crate::session::Session;
 use crate::streamed::Streamed;
+use flash_dev::Flash;
+use mm_writer::Engine;
+use nv_store::LoadWhy;
 use outside::Source;
 use script_text::{Script, ScriptFault, read_script};
 use std::alloc::Global;
 use var_types::{Call, TextBuffer};
 
-fn plan_refused(alloc: Global, fault: ScriptFault) -> Plan
+fn plan_script_fault(alloc: Global, fault: ScriptFault) -> Plan
     ensures { PlansLine 3 (script_line fault) result }
 {
     let mut text = TextBuffer::new(alloc);
@@ -25,18 +34,77 @@ fn plan_refused(alloc: Global, fault: ScriptFault) -> Plan
     plan_text(3, text)
 }
 
-// At least one change is allowed, so that the limit is none for an empty script.
-fn plan_calls(alloc: Global, calls: Vec<Call>) -> Plan
-    ensures { PlansRun calls.items result }
+// The refusal of an image, or of its flash.
+fn plan_unopened(alloc: Global, why: LoadWhy) -> Plan
+    ensures { PlansUnopened why result }
 {
-    let limit = calls.len().max(1) as u64;
-    match run_calls(alloc, calls, limit) {
-        Ok(answered) => Plan::Stream {
+    match why {
+        LoadWhy::Image(fault) => plan_refused(alloc, fault),
+        LoadWhy::ForeignWork => plan_foreign(alloc),
+        LoadWhy::Device => Plan::DeviceFault,
+        LoadWhy::OutOfMemory => Plan::NoMemory,
+    }
+}
+
+// Runs calls on an image that was opened, and closes it.
+fn run_opened<F: Flash>(
+    alloc: Global,
+    engine: Engine<F>,
+    calls: Vec<Call>,
+    desk: Desk,
+) -> Planned<F>
+    requires empty { desk.answered ≡ [] }
+    requires room { length calls.items ≤ desk.limit }
+    requires few { desk.limit ≤ most_calls }
+    ensures run { (input : Option (List ℕ)) (flash : F) → IsOpened F.fault_count F.moment F.left_since F.holds flash (length calls.items) engine
+        → PlansRun (told_of F.holds F.size F.fault_count F.moment F.left_since input flash result.image) calls.items result.plan }
+    ensures size { F.size result.image ≡ F.size engine.0 }
+{
+    let mut engine = engine;
+    let mut desk = desk;
+    let _opened = engine.trace();
+    run_calls(alloc, &mut engine, calls, &mut desk);
+    let _closed = engine.trace();
+    let (image, entries) = engine.release();
+    Planned {
+        plan: Plan::Stream {
             streamed: Streamed::Report {
-                session: Session::new(answered),
+                session: desk.into_session(entries),
             },
         },
-        Err(_) => Plan::NoMemory,
+        image,
+    }
+}
+
+// Opens the image, and runs calls on it. At least one change is allowed, so that the limit is none for an empty script.
+fn run_on<F: Flash>(alloc: Global, image: F, calls: Vec<Call>, desk: Desk) -> Planned<F>
+    requires empty { desk.answered ≡ [] }
+    requires room { length calls.items ≤ desk.limit }
+    requires few { desk.limit ≤ most_calls }
+    ensures run { (input : Option (List ℕ)) → PlansRun (told_of F.holds F.size F.fault_count F.moment F.left_since input image result.image) calls.items result.plan }
+    ensures size { F.size result.image ≡ F.size image }
+{
+    let limit = calls.len().max(1) as u64;
+    match Engine::begin(alloc, image, limit) {
+        Ok(engine) => run_opened(alloc, engine, calls, desk),
+        Err(fault) => Planned {
+            plan: plan_unopened(alloc, fault.why),
+            image: fault.flash,
+        },
+    }
+}
+
+fn plan_calls<F: Flash>(alloc: Global, image: F, calls: Vec<Call>) -> Planned<F>
+    requires few { length calls.items ≤ most_calls }
+    ensures run { (input : Option (List ℕ)) → PlansRun (told_of F.holds F.size F.fault_count F.moment F.left_since input image result.image) calls.items result.plan }
+    ensures size { F.size result.image ≡ F.size image }
+{
+    match Desk::for_calls(alloc, calls.len()) {
+        Ok(desk) => run_on(alloc, image, calls, desk),
+        Err(_) => Planned {
+            plan: Plan::NoMemory,
+            image,
+        },
     }
 }
 
@@ -50,33 +118,48 @@ fn first_calls(alloc: Global, script: Script) -> Vec<Call>
     }
 }
 
-fn plan_accepted(alloc: Global, script: Script) -> Plan
-    ensures { (calls : _) → script ≡ calls ∷ [] → PlansRun calls result }
-{
-    plan_calls(alloc, first_calls(alloc, script))
-}
-
-fn plan_script(alloc: Global, input: &[u8]) -> Plan
-    ensures text { HasPlanValues result → IsText (run_row (Some input.now)) (status_of result) (text_of result) }
-    ensures was_read { status_of result ≢ 6 }
-    ensures short { status_of result ≡ 0 → length input.now < most_read }
+fn plan_script<F: Flash>(alloc: Global, input: &[u8], image: F) -> Planned<F>
+    ensures text { (left : Option (List ℕ)) → SaysSame left input.now → HasPlanValues result.plan
+        → IsText (run_row (told_of F.holds F.size F.fault_count F.moment F.left_since left image result.image)) (status_of result.plan) (text_of result.plan) }
+    ensures unprinted { (left : Option (List ℕ)) → SaysSame left input.now → IsStreamed result.plan
+        → Runs (told_of F.holds F.size F.fault_count F.moment F.left_since left image result.image) }
+    ensures flash { (left : Option (List ℕ))
+        → FlashFails (run_row (told_of F.holds F.size F.fault_count F.moment F.left_since left image result.image)) (status_of result.plan) (F.fault_count image) (F.fault_count result.image) }
+    ensures was_read { status_of result.plan ≢ 6 }
+    ensures short { status_of result.plan ≡ 0 → length input.now < most_read }
+    ensures size { F.size result.image ≡ F.size image }
 {
     match read_script(alloc, input) {
-        Ok(script) => plan_accepted(alloc, script),
-        Err(ScriptFault::OutOfMemory) => Plan::NoMemory,
-        Err(fault) => plan_refused(alloc, fault),
+        Ok(script) => plan_calls(alloc, image, first_calls(alloc, script)),
+        Err(ScriptFault::OutOfMemory) => Planned {
+            plan: Plan::NoMemory,
+            image,
+        },
+        Err(fault) => Planned {
+            plan: plan_script_fault(alloc, fault),
+            image,
+        },
     }
 }
 
-/// Reads a script to its end, runs it on one processor, and plans what is to be printed.
-pub fn plan_run<S: Source>(alloc: Global, source: &mut S) -> Plan
-    ensures text { HasPlanValues result → IsText (run_row (S.left source.old)) (status_of result) (text_of result) }
-    ensures cause { FailsAt 6 (status_of result) (S.fault_count source.old) (S.fault_count source.new) }
-    ensures reads { ReadsInput (run_row (S.left source.old)) (status_of result) (S.left source.old) (S.left source.new) }
+/// Reads a script to its end, runs it on an image, and plans what is to be printed. Words and script are read before the image is opened.
+pub fn plan_run<S: Source, F: Flash>(alloc: Global, source: &mut S, image: F) -> Planned<F>
+    ensures text { HasPlanValues result.plan → IsText (run_row (told_of F.holds F.size F.fault_count F.moment F.left_since (S.left source.old) image result.image)) (status_of result.plan) (text_of result.plan) }
+    ensures unprinted { IsStreamed result.plan → Runs (told_of F.holds F.size F.fault_count F.moment F.left_since (S.left source.old) image result.image) }
+    ensures cause { FailsAt 6 (status_of result.plan) (S.fault_count source.old) (S.fault_count source.new) }
+    ensures flash { FlashFails (run_row (told_of F.holds F.size F.fault_count F.moment F.left_since (S.left source.old) image result.image)) (status_of result.plan) (F.fault_count image) (F.fault_count result.image) }
+    ensures reads { ReadsInput (run_row (told_of F.holds F.size F.fault_count F.moment F.left_since (S.left source.old) image result.image)) (status_of result.plan) (S.left source.old) (S.left source.new) }
+    ensures size { F.size result.image ≡ F.size image }
 {
     match read_input(alloc, source) {
-        Ok(input) => plan_script(alloc, input.as_slice()),
-        Err(InputFault::Failed) => Plan::InputFault,
-        Err(InputFault::OutOfMemory) => Plan::NoMemory,
+        Ok(input) => plan_script(alloc, input.as_slice(), image),
+        Err(InputFault::Failed) => Planned {
+            plan: Plan::InputFault,
+            image,
+        },
+        Err(InputFault::OutOfMemory) => Planned {
+            plan: Plan::NoMemory,
+            image,
+        },
     }
 }

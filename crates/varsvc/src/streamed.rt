@@ -1,5 +1,5 @@
 use crate::content::Content;
-use crate::session::Session;
+use var_trace::Session;
 
 /// What is printed while it is written.
 #[derive(Debug, Drop)]

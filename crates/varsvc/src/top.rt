@@ -30,16 +30,15 @@ fn perform<S: Source, K: Sink, F: Flash>(
     ensures performs { IfSome result.image (λ after. Performs S.left S.fault_count K.holds K.fault_count F.holds F.size F.fault_count F.moment F.left_since
         (asked words.now) script.old script.new out.old out.new image after result.status) }
 {
-    let mut image = image;
-    let plan = plan_asked(alloc, words, script, &mut image);
-    let status = print_plan(alloc, &plan, out);
+    let planned = plan_asked(alloc, words, script, image);
+    let status = print_plan(alloc, &planned.plan, out);
     Done {
         status,
-        image: Some(image),
+        image: Some(planned.image),
     }
 }
 
-/// The whole program but for running scripts: lists or formats an image as the words ask, or says why they are refused. It reads nothing of
+/// The whole program but for running scripts: lists, checks or formats an image as the words ask, or says why they are refused. It reads nothing of
 /// the source. Statuses as of `varsvc`.
 pub fn varsvc_plain<S: Source, K: Sink, F: Flash>(
     alloc: Global,
@@ -56,9 +55,10 @@ pub fn varsvc_plain<S: Source, K: Sink, F: Flash>(
     perform(alloc, words, script, image, out)
 }
 
-/// The whole program: reads the words, and does as they ask: reads a script from its source and runs it on one processor, of which the image
-/// is not opened yet; or lists or formats the image; and prints the outcome to its sink. Statuses: 0 all was done; 2 the words, 3 the script, 4
-/// the image is refused; 5 the sink, 6 the source, 7 the flash failed; 8 the call is out of memory, or replies of a run are.
+/// The whole program: reads the words, and does as they ask: reads a script from its source to its end and runs it on the image with one
+/// processor; or lists, checks or formats the image; and prints the outcome to its sink. Statuses: 0 all was done; 2 the words, 3 the script,
+/// 4 the image is refused; 5 the sink, 6 the source failed, 7 the flash before anything was run; 8 the call is out of memory, or replies of a
+/// run are. A call of the flash that fails within a run is a reply, and no status.
 pub fn varsvc<S: Source, K: Sink, F: Flash + Send>(
     alloc: Global,
     words: &[String],

@@ -28,7 +28,7 @@ returns-in-Check-clause-text c = λ told read.
     subst (λ (w : Inspection). IsText (inspection_row w told 131072) (status_of plan) (text_of plan)) (sym c.in-Check.is)
     (line_text (inspection_row Check told 131072) 0 (content_text Check c.args.kept c.args.content) plan
     (shown_text Check c.args.kept c.args.content told c.requires.accepted (c.is_foreign.ensures.sound c.if-is_foreign.false) read)
-    c.plan_checked.ensures)
+    c.plan_checked.ensures tt)
 
 pub returns-in-Check-clause-device : goal.returns-in-Check-clause-device
 returns-in-Check-clause-device c =

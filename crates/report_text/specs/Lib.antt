@@ -16,3 +16,4 @@ pub mod Values
 pub mod Fitting
 pub mod Session
 pub mod Sizes
+pub mod Summary

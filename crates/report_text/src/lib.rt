@@ -17,6 +17,7 @@ mod rule;
 mod sizes;
 mod stamp;
 mod status;
+mod summary;
 #[cfg(test)]
 mod tests;
 mod variables;
@@ -32,4 +33,5 @@ pub use part::{Part, write_line, write_parts};
 pub use report::write_session;
 pub use sizes::{Sizes, variable_sizes};
 pub use status::Status;
+pub use summary::{Summary, summary_of, write_summary};
 pub use word::Word;

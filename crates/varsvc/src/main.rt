@@ -25,7 +25,6 @@ mod run_plan;
 mod runner;
 mod serving;
 mod streamed;
-mod summary;
 #[cfg(test)]
 mod tests;
 mod top;
@@ -43,7 +42,6 @@ use program::run_on_files;
 use std::env::Env;
 use std::process::ExitCode;
 use std::{env, io};
-pub use summary::{Summary, summary_of, write_summary};
 pub use top::{Done, varsvc, varsvc_plain};
 pub use usage::UsageFault;
 pub use words::read_words;

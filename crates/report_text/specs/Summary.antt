@@ -1,12 +1,12 @@
 -- What calls come to, in numbers.
-use Rattle.std.specs.Prelude.{ℕ, Bool, true, false, not, List, [], ◌∷◌, length, count_by, sum_by, decimal, map}
-use Rattle.image_make.specs.Generated.{generated_calls, script_calls}
+use Rattle.std.specs.Prelude.{ℕ, Bool, true, false, not, List, [], ◌∷◌, length, count_by, decimal, map}
+use Rattle.report_text.specs.declared.sizes.Sizes.{Sizes}
 use Rattle.report_text.specs.declared.word.Word.TheVariants as word
 use Rattle.report_text.specs.Line.{line_text}
+use Rattle.report_text.specs.Sizes.{sizes_of}
 use Rattle.report_text.specs.Word.{word_text}
 use Rattle.var_types.specs.declared.answered.Answered.{Answered}
 use Rattle.var_types.specs.declared.call.Call.{Call}
-use Rattle.var_types.specs.declared.key.Key.{Key}
 use Rattle.var_types.specs.declared.policy_reply.PolicyReply.TheVariants as policy
 use Rattle.var_types.specs.declared.reply.ExitReply.TheVariants as exit
 use Rattle.var_types.specs.declared.reply.GetReply.TheVariants as get
@@ -14,10 +14,9 @@ use Rattle.var_types.specs.declared.reply.NextReply.TheVariants as next
 use Rattle.var_types.specs.declared.reply.Reply.{Reply}
 use Rattle.var_types.specs.declared.reply.Reply.TheVariants.{Get as GetReplied, Next as NextReplied, Set as SetReplied, Policy as PolicyReplied, Exit as ExitReplied}
 use Rattle.var_types.specs.declared.reply.SetReply.TheVariants as set
-use Rattle.var_types.specs.declared.variable.Variable.{Variable}
-use Rattle.var_types.specs.State.{State, start}
+use Rattle.var_types.specs.State.{State}
 use Rattle.var_types.specs.Step.{is_change, step}
-use Rattle.varsvc.specs.declared.summary.Summary.{Summary}
+use Rattle.report_text.specs.declared.summary.Summary.{Summary}
 
 -- whether a reply says that its call came to what it asked for (this project's own)
 abbrev pub is_done : Reply → Bool
@@ -37,19 +36,19 @@ is_done _ = false
 abbrev pub is_refused : Reply → Bool
 is_refused reply = not (is_done reply)
 
--- how many bytes variables have
-abbrev pub bytes_of : List (Key × Variable) → ℕ
-bytes_of variables = sum_by (λ entry. length entry.1.bytes) variables
-
--- the numbers of replies and of the variables that their calls leave (this project's own)
-abbrev pub summary_of : List Reply → List (Key × Variable) → Summary
-summary_of replies variables = record {
+-- the numbers of replies, and the sizes of the variables that their calls leave (this project's own)
+abbrev pub summary_of : List Reply → Sizes → Summary
+summary_of replies sizes = record {
   calls = length replies;
   changes = count_by is_change replies;
   refused = count_by is_refused replies;
-  variables = length variables;
-  bytes = bytes_of variables;
+  variables = sizes.variables;
+  bytes = sizes.bytes;
 }
+
+-- the replies of answered calls
+abbrev pub replies_of : List Answered → List Reply
+replies_of answered = map (λ a. a.reply) answered
 
 -- the line of a summary (this project's own)
 unfoldable pub summary_line : Summary → List ℕ
@@ -80,8 +79,4 @@ state_from state (call ∷ calls) = state_from (step state call).1 calls
 
 -- what calls come to that are made one after the other from a state (this project's own)
 abbrev pub summary_from : State → List Call → Summary
-summary_from state calls = summary_of (replies_from state calls) (state_from state calls).variables
-
--- what the calls of the script of a number come to where no variable was, of at most 4,000 changes (this project's own)
-unfoldable pub work_summary : ℕ → Summary
-work_summary number = summary_from (start [] script_calls) (generated_calls number)
+summary_from state calls = summary_of (replies_from state calls) (sizes_of (state_from state calls).variables)

@@ -1,12 +1,10 @@
 //! What calls come to, in numbers.
-ghost use Rattle.std.specs.Prelude.{◌≡◌, ◌<◌, ◌^◌, count_by, length, map};
+ghost use Rattle.std.specs.Prelude.{◌≡◌, count_by};
 ghost use Rattle.var_types.specs.Step.{is_change};
-ghost use Rattle.varsvc.specs.Summary.{is_done, is_refused, summary_line};
+ghost use Rattle.report_text.specs.Summary.{is_refused, replies_of, summary_line, summary_of};
 
-use report_text::{Part, Word, write_line};
-use var_types::{
-    Answered, ExitReply, GetReply, NextReply, PolicyReply, Put, Reply, SetReply,
-};
+use crate::{Part, Sizes, Word, write_line};
+use var_types::{Answered, ExitReply, GetReply, NextReply, PolicyReply, Put, Reply, SetReply};
 
 /// How many calls were made, made a change, and did not come to what they asked for; how many variables they leave, and how many bytes
 /// these have.
@@ -19,8 +17,8 @@ pub struct Summary {
     pub bytes: u64,
 }
 
-fn is_done(reply: &Reply) -> bool
-    ensures { result ≡ is_done reply.now }
+fn is_refused(reply: &Reply) -> bool
+    ensures { result ≡ is_refused reply.now }
 {
     match reply {
         Reply::Get(GetReply::Ok { .. })
@@ -29,41 +27,47 @@ fn is_done(reply: &Reply) -> bool
         | Reply::Policy(
             PolicyReply::Ok | PolicyReply::On | PolicyReply::Off | PolicyReply::Entry(_),
         )
-        | Reply::Exit(ExitReply::Ok | ExitReply::Same) => true,
-        _ => false,
+        | Reply::Exit(ExitReply::Ok | ExitReply::Same) => false,
+        _ => true,
     }
 }
 
 // How many answered calls made a change.
 fn count_changes(answered: &[Answered]) -> usize
-    ensures { result ≡ count_by (λ a. is_change a.reply) answered.now }
+    ensures { result ≡ count_by is_change (replies_of answered.now) }
 {
-    answered.iter().filter(|a| a.reply.is_change()).count()
+    let mut count = 0;
+    for a in answered {
+        if a.reply.is_change() {
+            count += 1;
+        }
+    }
+    count
 }
 
 // How many did not come to what they asked for.
 fn count_refused(answered: &[Answered]) -> usize
-    ensures { result ≡ count_by (λ a. is_refused a.reply) answered.now }
+    ensures { result ≡ count_by is_refused (replies_of answered.now) }
 {
-    answered.iter().filter(|a| !is_done(&a.reply)).count()
+    let mut count = 0;
+    for a in answered {
+        if is_refused(&a.reply) {
+            count += 1;
+        }
+    }
+    count
 }
 
-/// The summary of answered calls that leave so many variables with so many bytes.
-pub fn summary_of(answered: &[Answered], variables: u64, bytes: u64) -> Summary
-    ensures { result ≡ record {
-        calls = length answered.now;
-        changes = count_by is_change (map (λ a. a.reply) answered.now);
-        refused = count_by is_refused (map (λ a. a.reply) answered.now);
-        variables = variables;
-        bytes = bytes
-    } }
+/// The summary of answered calls, which leave variables of these sizes.
+pub fn summary_of(answered: &[Answered], sizes: Sizes) -> Summary
+    ensures { result ≡ summary_of (replies_of answered.now) sizes }
 {
     Summary {
         calls: answered.len() as u64,
         changes: count_changes(answered) as u64,
         refused: count_refused(answered) as u64,
-        variables,
-        bytes,
+        variables: sizes.variables,
+        bytes: sizes.bytes,
     }
 }
 

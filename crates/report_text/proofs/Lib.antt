@@ -15,3 +15,4 @@ pub mod SameReplies
 pub mod SessionLines
 pub mod SameRoutes
 pub mod OneSession
+pub mod Counts

@@ -9,6 +9,7 @@ use Rattle.var_types.specs.Room.{room_of}
 use Rattle.region_compact.specs.Compacted.{size_after}
 use Rattle.region_compact.specs.declared.replace.Replace.TheVariants.{None as Keep}
 use Rattle.region_compact.proofs.Kept.{rooms_few}
+use Rattle.report_text.specs.Sizes.{data_bytes}
 use Rattle.region_compact.proofs.MapAfter.{SizesAreTheRoom-all}
 
 -- one entry more
@@ -27,3 +28,9 @@ unfolding size_after
 room_few region few low =
     let same : _ ≡ records_room (region_map region) = SizesAreTheRoom-all region Keep in
     omega (arith, same, rooms_few region None few low)
+
+-- each has no more bytes than it takes room
+pub few_bytes : (entries : List (Key × Variable)) → data_bytes entries ≤ records_room entries
+few_bytes [] = omega arith
+few_bytes (entry ∷ entries) =
+    omega (arith, room_first entry entries, sum_by-cons (λ (e : Key × Variable). length e.1.bytes) entry entries, few_bytes entries)

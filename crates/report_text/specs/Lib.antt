@@ -15,3 +15,5 @@ pub mod PolicyValues
 pub mod Values
 pub mod Fitting
 pub mod Session
+pub mod Sizes
+pub mod Summary

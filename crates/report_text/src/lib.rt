@@ -14,8 +14,10 @@ mod replies;
 mod reply_tests;
 mod report;
 mod rule;
+mod sizes;
 mod stamp;
 mod status;
+mod summary;
 #[cfg(test)]
 mod tests;
 mod variables;
@@ -23,11 +25,13 @@ mod word;
 
 pub use check::{CheckFacts, check_facts, write_check};
 pub use check_word::CheckWord;
-pub use laws::one_report_one_session;
+pub use laws::{one_report_one_session, summaries_grow_by_a_call};
 pub use listing::write_listing;
 pub use outlet::Outlet;
 pub use page::Page;
 pub use part::{Part, write_line, write_parts};
 pub use report::write_session;
+pub use sizes::{Sizes, variable_sizes};
 pub use status::Status;
+pub use summary::{Summary, summary_of, write_summary};
 pub use word::Word;

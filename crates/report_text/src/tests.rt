@@ -1,9 +1,15 @@
-use crate::{Outlet, Page, Part, Word, write_line, write_listing};
+use crate::{
+    Outlet, Page, Part, Sizes, Word, summary_of, variable_sizes, write_line, write_listing,
+    write_summary,
+};
 use outside::MemSink;
 use std::alloc::{AllocError, Global};
 use std::test::Fail;
 use var_region::Region;
-use var_types::{Call, GetCall, Guid, OutOfMemory, Put, Stamp, TextBuffer, Units};
+use var_types::{
+    Answered, Bytes, Call, GetCall, Guid, OutOfMemory, Put, Reply, Route, SetCall, SetReason,
+    SetReply, Stamp, TextBuffer, Units, Verdict,
+};
 
 const ADDED: u8 = 0x3F;
 
@@ -32,6 +38,7 @@ const RECORD: [u8; 82] = [
 
 // A record of a region: its state, its attributes, the first two bytes of its GUID (the others are 0), its name's bytes with the NUL, its
 // stamp, and its data.
+#[derive(Drop)]
 struct Held(
     u8,
     u8,
@@ -263,6 +270,59 @@ fn a_thousand_variables_are_listed(rt: HostRuntime) -> Result<(), Fail> {
     }
     assert_eq!(rt; lines[1001], b"end".as_slice());
     assert!(rt; lines[1002].is_empty());
+    Ok(())
+}
+
+#[test]
+fn sizes_are_counted(rt: HostRuntime) -> Result<(), Fail> {
+    let alloc = rt.alloc();
+    let held = [
+        Held(ADDED, 7, [1, 0], A, &NO_STAMP, &[1, 2, 3]),
+        Held(ADDED, 7, [2, 0], A, &NO_STAMP, &[4]),
+    ];
+    let bytes = region_bytes(alloc, &held)?;
+    let region = over(&bytes, FIRST, true).expect(&rt, "the first is within");
+    let want = Sizes {
+        variables: 2,
+        bytes: 4,
+    };
+    assert_eq!(rt; variable_sizes(alloc, &region)?, want);
+    Ok(())
+}
+
+// A set of a name without units, answered so.
+fn answered(alloc: Global, reply: SetReply) -> Answered {
+    let call = Call::Set(SetCall {
+        guid: Guid { bytes: [1; 16] },
+        name: Units::from_vec(Vec::new(alloc)),
+        attributes: 7,
+        bytes: Bytes::new(alloc),
+        verdict: Verdict::Good,
+    });
+    Answered {
+        call,
+        place: 0,
+        route: Route::Plain,
+        reply: Reply::Set(reply),
+    }
+}
+
+#[test]
+fn answered_calls_are_counted(rt: HostRuntime) -> Result<(), Fail> {
+    let alloc = rt.alloc();
+    let mut calls = Vec::new(alloc);
+    calls.push(answered(alloc, SetReply::Ok))?;
+    calls.push(answered(alloc, SetReply::Same))?;
+    calls.push(answered(alloc, SetReply::Refused(SetReason::Missing)))?;
+    calls.push(answered(alloc, SetReply::Device))?;
+    let sizes = Sizes {
+        variables: 1,
+        bytes: 9,
+    };
+    let mut out = TextBuffer::new(alloc);
+    write_summary(&summary_of(&calls, sizes), &mut out);
+    let want = b"calls 4 changes 1 refused 2 variables 1 bytes 9\n";
+    assert_eq!(rt; out.finish()?.as_slice(), want.as_slice());
     Ok(())
 }
 

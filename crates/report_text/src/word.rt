@@ -72,6 +72,8 @@ pub enum Word {
     Writer,
     Flushed,
     Deferred,
+    Changes,
+    Refused,
 }
 
 impl Word {
@@ -152,6 +154,8 @@ impl Word {
             Word::Writer => "writer",
             Word::Flushed => "flushed",
             Word::Deferred => "deferred",
+            Word::Changes => "changes",
+            Word::Refused => "refused",
         }
     }
 }

@@ -187,7 +187,7 @@ line_of-spaced (call.Policy c) readable = line_of-policy c
 line_of-spaced call.ExitBoot readable = refl
 
 -- the line of a call may stand in a script
-is_text-line_of : (call : Call) → IsReadable call → is_text (line_of call) ≡ true
+pub is_text-line_of : (call : Call) → IsReadable call → is_text (line_of call) ≡ true
 is_text-line_of call readable =
     ap is_text (line_of-spaced call readable) ∙ is_text-spaced (codes "0" ∷ call_words_of call) (are_call_words call readable)
 
@@ -197,7 +197,7 @@ words_of-line_of call readable =
     ap words_of (line_of-spaced call readable) ∙ words_of-spaced (codes "0" ∷ call_words_of call) (are_call_words call readable)
 
 -- the line of a call is read as the call
-line_call-line_of : (call : Call) → IsReadable call → line_call (line_of call) ≡ Ok (Some (0, call))
+pub line_call-line_of : (call : Call) → IsReadable call → line_call (line_of call) ≡ Ok (Some (0, call))
 unfolding line_call
 line_call-line_of call readable =
     rw (is_text-line_of call readable) (ap words_call (words_of-line_of call readable) ∙ words_call-call call readable)

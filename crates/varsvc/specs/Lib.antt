@@ -10,3 +10,4 @@ pub mod Plan
 pub mod Opened
 pub mod RunPlan
 pub mod Running
+pub mod Work

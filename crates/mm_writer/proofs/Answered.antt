@@ -97,6 +97,6 @@ module _ (side next : Side) (totals left : RoomTotals) (policies : PolicyState) 
     right = reply_ok (state_of side) call (changed (state_of side) (edited edit (state_of side).variables)) is;
     change = λ _.
         subst (λ (s : Side). Grows side s (entry_after side processor index (SetCalled call))) (sym is_grown)
-        (record { delta = e.change; log = refl; opening = refl; limit = refl; flushed = refl; wider = wider });
+        (record { delta = e.change; log = refl; inside = e.inside side.stores refl; opening = refl; limit = refl; flushed = refl; wider = wider });
     same = λ h. absurd (true≢false h);
   }

@@ -1,12 +1,13 @@
 -- A consistent side stays so by a change that writes no bytes.
 use Rattle.std.proofs.Common.{◌≡◌, ℕ, ◌+◌, Bool, true, false, List, length, refl, sym, ap, subst, ◌∙◌, true≢false, slice_index}
+use Rattle.std.proofs.lemmas.List.Elements.{All-nil}
 use Rattle.mm_writer.proofs.Consistent.{consistent_grown, state_grown}
 use Rattle.mm_writer.proofs.Sides.{means_now}
 use Rattle.mm_writer.specs.Books.{entered_in, phase_change}
 use Rattle.mm_writer.specs.declared.books.Books.{Books}
 use Rattle.mm_writer.specs.Engine.{IsKept, side_by}
 use Rattle.mm_writer.specs.Outcome.{IsAnswered, entry_after}
-use Rattle.mm_writer.specs.Side.{Side, grown, state_of}
+use Rattle.mm_writer.specs.Side.{IsInStore, Side, grown, state_of}
 use Rattle.pending_range.specs.declared.ranges.Ranges.{Ranges}
 use Rattle.pending_range.specs.Laws.{AgreementGrows, AgreementIsReflexive}
 use Rattle.pending_range.specs.Ranges.{AgreeOutside}
@@ -91,6 +92,7 @@ module _ (grows : AgreementGrows) (same : AgreementIsReflexive) (side : Side) (t
         record {
           delta = phase_change phase;
           log = refl;
+          inside = All-nil (IsInStore side.stores);
           opening = refl;
           limit = refl;
           flushed = refl;

@@ -1,6 +1,7 @@
 -- How a change of one store enters the books.
-use Rattle.std.specs.Prelude.{◌≡◌, ℕ, Bool, List, [], ◌∷◌, ◌++◌, length, map, slice_index}
+use Rattle.std.specs.Prelude.{◌≡◌, ℕ, Bool, List, [], ◌∷◌, ◌++◌, length, map, slice_index, All}
 use Rattle.mm_writer.specs.declared.books.Books.{Books}
+use Rattle.mm_writer.specs.Side.{IsInStore}
 use Rattle.pending_range.specs.Ranges.{IsCovered, IsWider}
 use Rattle.var_trace.specs.Pieces.{piece_of, with_change}
 use Rattle.var_trace.specs.StoreChange.{StoreChange}
@@ -17,11 +18,12 @@ pub record IsPrepared (store : Store) (spans : List Span) (old new : List ℕ) (
   pub written : IsWritten spans old new
 
 -- the books after a store's bytes became others: the history has the entry behind the others, with a change that makes the new stores of the old
--- ones; the pending ranges cover what they did and each byte that changed; all else is as it was (this project's own)
+-- ones, and whose pieces lie within them; the pending ranges cover what they did and each byte that changed; all else is as it was (this project's own)
 pub record Enters (store : Store) (old new : List ℕ) (entry : Entry) (before after : Books) : Type 0 where
   pub change : StoreChange
   pub trace : after.trace ≡ record before.trace { log = before.trace.log ++ record { entry = entry; delta = change } ∷ [] }
   pub writes : (stores : Stores) → bytes_in stores store ≡ old → stores.runtime ≡ before.runtime → with_change stores change ≡ with_store stores store new
+  pub inside : (stores : Stores) → bytes_in stores store ≡ old → All (IsInStore stores) change.pieces
   pub runtime : after.runtime ≡ before.runtime
   pub flushed : after.flushed ≡ before.flushed
   pub wider : IsWider before.ranges after.ranges

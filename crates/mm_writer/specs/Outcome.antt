@@ -1,5 +1,5 @@
 -- What a call of the writer's side answers, and what it leaves of the history and of the flash.
-use Rattle.std.specs.Prelude.{◌≡◌, ◌≢◌, ◌⊎◌, ℕ, ◌≤◌, true, false, List, [], ◌∷◌, ◌++◌, length, take}
+use Rattle.std.specs.Prelude.{◌≡◌, ◌≢◌, ◌⊎◌, ℕ, ◌≤◌, true, false, List, [], ◌∷◌, ◌++◌, length, take, All}
 use Rattle.outside.specs.Faults.{HasRisen}
 use Rattle.pending_range.specs.Ranges.{IsWider}
 use Rattle.var_trace.specs.StoreChange.{StoreChange}
@@ -16,17 +16,18 @@ use Rattle.var_types.specs.Layout.{headers_size}
 use Rattle.var_types.specs.Set.{set_step}
 use Rattle.var_types.specs.Step.{is_change}
 use Rattle.var_types.specs.Stores.{part}
-use Rattle.mm_writer.specs.Side.{Side, state_of}
+use Rattle.mm_writer.specs.Side.{IsInStore, Side, state_of}
 
 -- the entry of a call that a processor makes as the one of an index, if it is a change after a side's history
 abbrev pub entry_after : Side → ℕ → ℕ → Call → Entry
 entry_after side processor index call = record { number = length side.log; processor = processor; index = index; call = call }
 
--- a side with one change more: the history has this entry behind the others, the pending ranges cover all that they did, and what the side opened
--- with, its limit and what the cache has are as they were (this project's own)
+-- a side with one change more: the history has this entry behind the others, with a change whose pieces lie within the stores, the pending ranges
+-- cover all that they did, and what the side opened with, its limit and what the cache has are as they were (this project's own)
 pub record Grows (old new : Side) (entry : Entry) : Type 0 where
   pub delta : StoreChange
   pub log : new.log ≡ old.log ++ record { entry = entry; delta = delta } ∷ []
+  pub inside : All (IsInStore old.stores) delta.pieces
   pub opening : new.opening ≡ old.opening
   pub limit : new.limit ≡ old.limit
   pub flushed : new.flushed ≡ old.flushed

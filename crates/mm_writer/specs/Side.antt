@@ -3,11 +3,13 @@ use Rattle.std.specs.Prelude.{◌≡◌, ℕ, ◌≤◌, List, [], ◌∷◌, �
 use Rattle.pending_range.specs.declared.ranges.Ranges.{Ranges}
 use Rattle.pending_range.specs.Ranges.{AgreeOutside}
 use Rattle.var_trace.specs.declared.change.Change.{Change}
+use Rattle.var_trace.specs.declared.piece.Piece.{Piece}
+use Rattle.var_trace.specs.Pieces.{IsWithin}
 use Rattle.var_trace.specs.StoresAfter.{bytes_at, history_in, stores_after}
 use Rattle.var_types.specs.declared.store.Store.TheVariants.{NonVolatile}
 use Rattle.var_types.specs.History.{after, run}
 use Rattle.var_types.specs.State.{State, start}
-use Rattle.var_types.specs.Stores.{Means, Stores, map_in}
+use Rattle.var_types.specs.Stores.{Means, Stores, bytes_in, map_in}
 use Rattle.var_types.specs.Walk.{IsSound}
 
 -- what the writer's side holds: the stores and the phase that it opened with, the changes since, how many there may be, the stores and the phase
@@ -44,3 +46,7 @@ pub record IsConsistent (side : Side) : Type 0 where
 -- a side with one change more, with these stores and pending ranges now
 abbrev pub grown : Side → Change → Stores → Ranges → Side
 grown side change stores ranges = record side { log = side.log ++ change ∷ []; stores = stores; ranges = ranges }
+
+-- a piece lies within the bytes of its store
+abbrev pub IsInStore : Stores → Piece → Type 0
+IsInStore stores piece = IsWithin (length (bytes_in stores piece.store)) piece

@@ -6,7 +6,8 @@ ghost use Rattle.var_types.specs.Answers.{get_answer, next_answer};
 ghost use Rattle.var_types.specs.declared.call.Call.TheVariants.{ExitBoot as ExitCalled, Policy as PolicyCalled};
 ghost use Rattle.var_types.specs.declared.reply.Reply.TheVariants.{Exit as ExitReplied, Policy as PolicyReplied};
 ghost use Rattle.var_types.specs.Get.{get_reply};
-ghost use Rattle.var_types.specs.Layout.{longest_region, volatile_size, volume_size};
+ghost use Rattle.var_types.specs.Kept.{volume};
+ghost use Rattle.var_types.specs.Layout.{image_size, longest_region, volatile_size, volume_size};
 ghost use Rattle.var_types.specs.Next.{next_reply};
 ghost use Rattle.var_types.specs.PolicyStep.{takes_memory};
 ghost use Rattle.var_types.specs.Step.{is_change};
@@ -14,6 +15,7 @@ ghost use Rattle.var_types.specs.Step.{is_change};
 use crate::engine::Engine;
 use crate::prepared::Caller;
 use flash_dev::Flash;
+use nv_store::Lists;
 use pending_range::agreement_grows_with_the_ranges as ranges_agree;
 use runtime_cache::{get, next};
 use var_region::region_in;
@@ -164,10 +166,12 @@ impl<F: Flash> Engine<F> {
         self.books.trace.len()
     }
 
-    /// The volume of the non-volatile store, of 57,344 bytes, headers included.
+    /// The volume of the non-volatile store, of 57,344 bytes, headers included; no set being in doubt it is the flash's.
     pub fn non_volatile(&self) -> &[u8]
         ensures bytes { result.now ≡ self.now.1.1.stores.non_volatile }
         ensures size { length result.now ≡ volume_size }
+        ensures flash { F.size self.now.0 ≡ image_size }
+        ensures volume { self.now.1.0 ≡ None → IfSome (F.holds self.now.0) (λ image. volume image ≡ result.now) }
     {
         self.store.mirror()
     }
@@ -218,5 +222,15 @@ impl<F: Flash> Engine<F> {
         ensures consistent { IsConsistent self.1.1 }
     {
         (self.store.release(), self.books.trace)
+    }
+}
+
+impl<F: Lists> Engine<F> {
+    /// Gives out what the flash has listed.
+    pub fn give_list(&mut self) -> F::List
+        ensures gives { F.gives self.old.0 result self.new.0 }
+        ensures rest { self.new.1 ≡ self.old.1 }
+    {
+        self.store.give_list()
     }
 }

@@ -6,6 +6,7 @@ mod adding;
 mod anew;
 mod in_place;
 mod laws;
+mod lists;
 mod load_fault;
 mod marking;
 mod marks;
@@ -23,6 +24,7 @@ mod writing;
 
 pub use anew::{put_anew, repack};
 pub use laws::{changes_are_whole, openings_keep_the_variables};
+pub use lists::Lists;
 pub use load_fault::{LoadFault, LoadWhy};
 pub use spans::{put_spans, remove_spans, size_of};
 pub use store::NvStore;

@@ -24,7 +24,7 @@ ghost use Rattle.var_types.specs.Stores.{map_in};
 
 use crate::opening::{open_volume, restore};
 use crate::writing::{write_put, write_removal};
-use crate::{LoadFault, LoadWhy, StoreFault, spans};
+use crate::{Lists, LoadFault, LoadWhy, StoreFault, spans};
 use flash_dev::{Device, Flash, IMAGE_BYTES, ImageFault, VOLUME_BYTES};
 use std::alloc::Global;
 use std::marker::Model;
@@ -283,5 +283,15 @@ impl<F: Flash> NvStore<F> {
         ensures within { AreWithin result (length self.now.1.0) }
     {
         spans::remove_spans(Store::NonVolatile, &self.mirror, guid, name)
+    }
+}
+
+impl<F: Lists> NvStore<F> {
+    /// Gives out what the flash has listed.
+    pub fn give_list(&mut self) -> F::List
+        ensures gives { F.gives self.old.0 result self.new.0 }
+        ensures rest { self.new.1 ≡ self.old.1 }
+    {
+        self.flash.give_list()
     }
 }

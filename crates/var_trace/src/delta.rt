@@ -58,6 +58,15 @@ impl Delta {
         refresh_all(&mut self.pieces, bytes);
     }
 
+    pub fn copy(&self, alloc: Global) -> Result<Delta, OutOfMemory>
+        ensures { IfOk result (λ delta. delta ≡ self.now) }
+    {
+        Ok(Delta {
+            pieces: copies_of(alloc, &self.pieces)?,
+            phase: self.phase,
+        })
+    }
+
     pub fn pieces(&self) -> &[Piece]
         ensures { result.now ≡ self.now.pieces }
     {
@@ -97,4 +106,14 @@ fn refresh_all(pieces: &mut [Piece], bytes: &[u8])
     for piece in pieces.iter_mut() {
         piece.refresh(bytes);
     }
+}
+
+fn copies_of(alloc: Global, pieces: &[Piece]) -> Result<Vec<Piece>, OutOfMemory>
+    ensures { IfOk result (λ copies. copies.items ≡ pieces.now) }
+{
+    let mut copies = Vec::with_capacity(alloc, pieces.len())?;
+    for piece in pieces {
+        copies.push(piece.duplicate()?)?;
+    }
+    Ok(copies)
 }

@@ -27,6 +27,16 @@ impl Piece {
         })
     }
 
+    pub(crate) fn duplicate(&self) -> Result<Piece, OutOfMemory>
+        ensures { IfOk result (λ piece. piece ≡ self.now) }
+    {
+        Ok(Piece {
+            store: self.store,
+            at: self.at,
+            bytes: self.bytes.clone()?,
+        })
+    }
+
     /// Takes the bytes that stand at its place now, as many as it has.
     pub fn refresh(&mut self, bytes: &[u8])
         requires { IsWithin (length bytes.now) self.old }

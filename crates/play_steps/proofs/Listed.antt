@@ -1,10 +1,9 @@
 -- The moments of a flash that lists its steps.
-use Rattle.std.proofs.Common.{◌≡◌, inl, inr, ⊎_elim, ◌⊎◌, ℕ, ◌+◌, ◌-◌, ◌≤◌, List, [], ◌∷◌, ◌++◌, length, take, drop, refl, sym, subst, arith, length-append}
+use Rattle.std.proofs.Common.{◌≡◌, inl, inr, ⊎_elim, ◌⊎◌, ℕ, ◌+◌, ◌-◌, ◌≤◌, List, [], ◌∷◌, ◌++◌, length, take, drop, refl, sym, ap, subst, ◌∙◌, arith, length-append}
 use Rattle.std.proofs.lemmas.List.{drop-append-le, take-append-le}
-use Rattle.flash_dev.specs.Rules.{IsEraseLeft}
 use Rattle.svc_core.specs.declared.flash_step.FlashStep.{FlashStep}
-use Rattle.svc_core.specs.FlashSteps.{IsStepLeft, after_step, after_steps}
-use Rattle.play_steps.specs.ListedFlash.{IsLeftIn, IsLeftSince, ListedState, StaysListed, bytes_of, listed, moment_of}
+use Rattle.svc_core.specs.FlashSteps.{IsStepLeft, StepFits, StepsFit, after_step, after_steps}
+use Rattle.play_steps.specs.ListedFlash.{IsLeftIn, IsLeftSince, IsListed, ListedState, StaysListed, bytes_of, listed, moment_of}
 use Rattle.play_steps.specs.Told.{after_more, at_moment}
 
 -- what may be left in steps with one more may be left in those before, or in the one more
@@ -43,11 +42,44 @@ module _ (old : ListedState) (step : FlashStep) (done : IsStepLeft step (bytes_o
     now = subst (IsStepLeft step (bytes_of old)) (sym (after_more old.steps (step ∷ []) old.first)) done;
   }
 
--- a call that lists nothing
-pub stays_unlisted : (IsLeft : List ℕ → List ℕ → Type 0) (old : ListedState) (faults : ℕ) → IsLeft (bytes_of old) (bytes_of old)
-    → StaysListed IsLeft old (record old { faults = faults })
-stays_unlisted IsLeft old faults same = record { later = omega arith; each = λ t left early since. inl since; now = same }
+-- steps that fit, and one more
+fit_more : (steps : List FlashStep) (step : FlashStep) → StepsFit steps → StepFits step → StepsFit (steps ++ step ∷ [])
+fit_more [] step fit fits = (fits, tt)
+fit_more (s ∷ steps) step fit fits = (fit.0, fit_more steps step fit.1 fits)
 
--- a block may be left as it was
-pub erase_kept : (block : ℕ) (image : List ℕ) → IsEraseLeft block image image
-erase_kept block image = record { len = refl; before = refl; behind = refl }
+module _ (bytes first now : List ℕ) (steps all : List FlashStep) (faults : ℕ) (step : FlashStep) (k : IsListed bytes first steps) (is : now ≡ after_step step bytes) (listed_is : all ≡ steps ++ step ∷ []) where
+  -- the bytes behind a step that is done and listed
+  pub bytes_done : after_steps all first ≡ after_step step (after_steps steps first)
+  bytes_done = ap (λ (s : List FlashStep). after_steps s first) listed_is ∙ after_more steps (step ∷ []) first
+
+  pub now_is : now ≡ after_steps all first
+  now_is = is ∙ ap (after_step step) k.is ∙ sym bytes_done
+
+  -- such a step leaves what the flash keeps
+  pub listed_more : StepFits step → length now ≡ length bytes → IsListed now first all
+  listed_more fits len = record {
+    size = len ∙ k.size;
+    is = now_is;
+    fit = subst StepsFit (sym listed_is) (fit_more steps step k.fit fits);
+  }
+
+  -- and as many bytes
+  pub size_done : length now ≡ length bytes → length (after_steps all first) ≡ length (after_steps steps first)
+  size_done len = ap length (sym now_is) ∙ len ∙ ap length k.is
+
+  -- its moments
+  pub stays_done : IsStepLeft step bytes now
+      → StaysListed (IsStepLeft step) (record { first = first; steps = steps; faults = faults }) (record { first = first; steps = all; faults = faults })
+  stays_done left =
+      subst (λ (s : List FlashStep). StaysListed (IsStepLeft step) (record { first = first; steps = steps; faults = faults }) (record { first = first; steps = s; faults = faults }))
+      (sym listed_is)
+      (stays_listed (record { first = first; steps = steps; faults = faults }) step
+      (subst (λ (image : List ℕ). IsStepLeft step image (after_step step image)) k.is (subst (IsStepLeft step bytes) is left)))
+
+-- a call that lists nothing
+pub stays_unlisted : (IsLeft : List ℕ → List ℕ → Type 0) (first : List ℕ) (steps same : List FlashStep) (faults more : ℕ) → same ≡ steps
+    → IsLeft (after_steps steps first) (after_steps steps first)
+    → StaysListed IsLeft (record { first = first; steps = steps; faults = faults }) (record { first = first; steps = same; faults = more })
+stays_unlisted IsLeft first steps same faults more is left =
+    subst (λ (s : List FlashStep). StaysListed IsLeft (record { first = first; steps = steps; faults = faults }) (record { first = first; steps = s; faults = more }))
+    (sym is) (record { later = omega arith; each = λ t left early since. inl since; now = left })

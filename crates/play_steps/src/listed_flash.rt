@@ -52,6 +52,24 @@ fn list_erase(steps: &mut Vec<FlashStep>, block: u32) -> Result<(), OutOfMemory>
     Ok(())
 }
 
+fn program_held(held: &mut Vec<u8>, at: u32, bytes: &[u8])
+    requires { at + length bytes.now ≤ length held.old.items }
+    ensures changed { held.new.items ≡ programmed at bytes.now held.old.items }
+    ensures left { IsProgramLeft at bytes.now held.old.items held.new.items }
+    ensures size { length held.new.items ≡ length held.old.items }
+{
+    program_at(held, at, bytes);
+}
+
+fn erase_held(held: &mut Vec<u8>, block: u32)
+    requires { block_size * block + block_size ≤ length held.old.items }
+    ensures changed { held.new.items ≡ block_filled block 0xFF held.old.items }
+    ensures left { IsEraseLeft block held.old.items held.new.items }
+    ensures size { length held.new.items ≡ length held.old.items }
+{
+    fill_block(held, block, 0xFF);
+}
+
 impl ListedFlash {
     /// A flash of these bytes, with nothing listed.
     pub fn new(alloc: Global, bytes: Vec<u8>) -> Self
@@ -124,7 +142,7 @@ impl Flash for ListedFlash {
     {
         match list_program(&mut self.steps, at, bytes) {
             Ok(()) => {
-                program_at(&mut self.bytes, at, bytes);
+                program_held(&mut self.bytes, at, bytes);
                 Ok(())
             }
             Err(OutOfMemory) => {
@@ -147,7 +165,7 @@ impl Flash for ListedFlash {
     {
         match list_erase(&mut self.steps, block) {
             Ok(()) => {
-                fill_block(&mut self.bytes, block, 0xFF);
+                erase_held(&mut self.bytes, block);
                 Ok(())
             }
             Err(OutOfMemory) => {

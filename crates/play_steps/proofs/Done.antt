@@ -1,5 +1,5 @@
 -- What an engine's answers come to.
-use Rattle.std.proofs.Common.{◌≡◌, ◌≢◌, inl, inr, ⊎_elim, ◌⊎◌, ℕ, Bool, true, false, List, [], Option, Some, None, IfSome, length, refl, sym, ap, subst, ◌∙◌, true≢false}
+use Rattle.std.proofs.Common.{◌≡◌, ◌≢◌, inl, inr, ⊎_elim, ◌⊎◌, ℕ, Bool, true, false, List, [], Option, Some, None, Result, Ok, Err, IfOk, IfSome, length, refl, sym, ap, subst, ◌∙◌, true≢false}
 use Rattle.flash_dev.specs.Moments.{Stays}
 use Rattle.mm_writer.specs.Outcome.{Grows, IsAnswered, IsKeptBy, IsSetLeft, entry_after}
 use Rattle.mm_writer.specs.Side.{Side, first_state, state_of}
@@ -33,6 +33,12 @@ use Rattle.var_types.specs.State.{start}
 use Rattle.play_steps.proofs.Marks.{HasNoShort, first_same, left_by_calls, not_short}
 use Rattle.play_steps.specs.EngineWriter.{EngineState, IsDone, IsReady, IsWhole, KeepsEither, opening_of}
 use Rattle.play_steps.specs.ListedFlash.{IsLeftIn, IsLeftSince, ListedState, StaysListed, bytes_of, moment_of}
+
+-- what is true of a result's value, from three facts of it
+pub told_all : {A E : Type 0} (result : Result A E) (P Q R S : A → Type 0) → IfOk result P → IfOk result Q → IfOk result R
+    → ((value : A) → P value → Q value → R value → S value) → IfOk result S
+told_all (Ok value) P Q R S p q r all = all value p q r
+told_all (Err fault) P Q R S p q r all = tt
 
 -- the opening stays with what a side opened with and its limit
 pub opening_by : (old new : EngineState) → new.1.1.opening ≡ old.1.1.opening → new.1.1.limit ≡ old.1.1.limit → opening_of new ≡ opening_of old

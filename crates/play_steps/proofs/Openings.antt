@@ -18,7 +18,7 @@ use Rattle.var_types.specs.Walk.{IsSound}
 
 module _ (e : EngineState) (before : List ℕ) (limit : ℕ) (whole : IsWhole e) (sure : e.1.0 ≡ None) (side : e.1.1 ≡ opened_side e.1.1.stores.non_volatile limit) where
   -- the state now is the first
-  state_first : state_of e.1.1 ≡ first_state e.1.1
+  pub state_first : state_of e.1.1 ≡ first_state e.1.1
   unfolding state_of
   state_first = ap (λ (log : List Change). run (first_state e.1.1) (history_in log)) (ap (λ (s : Side). s.log) side)
 

@@ -9,11 +9,11 @@ use Rattle.mm_writer.specs.Side.{IsInStore as IsInSide, Side, first_state, grown
 use Rattle.play_steps.proofs.Done.{opening_by}
 use Rattle.play_steps.proofs.Marks.{at_each_moment}
 use Rattle.play_steps.specs.EngineWriter.{EngineState, IsDone, IsReady, IsWhole, KeepsEither, opening_of, own_of}
-use Rattle.play_steps.specs.ListedFlash.{IsLeftIn, bytes_of}
+use Rattle.play_steps.specs.ListedFlash.{GivesList, IsLeftIn, bytes_of}
 use Rattle.svc_core.specs.declared.flash_step.FlashStep.{FlashStep}
 use Rattle.svc_core.specs.FlashSteps.{Moments, StepsFit, after_steps}
 use Rattle.svc_core.specs.Plan.{IsChangePlan, IsInStore, IsPlan, KeepsWithOrWithout, Plan, store_size}
-use Rattle.svc_core.specs.Writer.{Opening, kept_after, state_at}
+use Rattle.svc_core.specs.Writer.{Opening, Writer, kept_after, state_at}
 use Rattle.var_trace.proofs.StoresAfter.{are_after}
 use Rattle.var_trace.specs.declared.change.Change.{Change}
 use Rattle.var_trace.specs.declared.piece.Piece.{Piece}
@@ -56,6 +56,12 @@ all_inside stores sizes pieces inside = λ k d h.
     let piece = slice_index_or pieces k d in
     let within : piece.at + length piece.bytes ≤ length (bytes_in stores piece.store) = inside k d h in
     subst (λ n. piece.at + length piece.bytes ≤ n) (size_in stores sizes piece.store) within
+
+-- an engine that gave out its list has all that is its own
+pub own_given : (e next : EngineState) (given : List FlashStep) → GivesList e.0 given next.0 → next.1 ≡ e.1 → own_of next ≡ own_of e
+own_given e next given gives rest = λ i.
+    let w : Writer = record { log = (rest i).1.log; stores = (rest i).1.stores; image = bytes_of (gives.begun i) } in
+    w
 
 module _ (old new : EngineState) (processor index : ℕ) (call : Call) (reply : Reply) (ready : IsReady old) (done : IsDone old new processor index call reply) where
   -- the reply is the service's after the writer's history

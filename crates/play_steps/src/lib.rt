@@ -4,15 +4,15 @@
 mod beginning;
 mod copies;
 mod engine_writer;
-mod listed_flash;
-mod planning;
-mod reads;
 #[cfg(test)]
 mod legal_session;
+mod listed_flash;
 #[cfg(test)]
 mod order_tests;
+mod planning;
 #[cfg(test)]
 mod power_tests;
+mod reads;
 #[cfg(test)]
 mod test_worlds;
 #[cfg(test)]

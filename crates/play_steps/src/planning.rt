@@ -99,7 +99,11 @@ fn answer_exit(engine: &mut Engine<ListedFlash>, processor: u8, index: u32) -> R
 }
 
 // A get changes nothing.
-fn answer_get(alloc: Global, engine: &Engine<ListedFlash>, call: &GetCall) -> Result<Reply, OutOfMemory>
+fn answer_get(
+    alloc: Global,
+    engine: &Engine<ListedFlash>,
+    call: &GetCall,
+) -> Result<Reply, OutOfMemory>
     requires { IsReady engine.now }
     ensures { (processor index : ℕ) → IfOk result (λ reply. IsDone engine.now engine.now processor index (calls.Get call.now) reply) }
 {
@@ -109,7 +113,11 @@ fn answer_get(alloc: Global, engine: &Engine<ListedFlash>, call: &GetCall) -> Re
 }
 
 // Nor does a next.
-fn answer_next(alloc: Global, engine: &Engine<ListedFlash>, call: &NextCall) -> Result<Reply, OutOfMemory>
+fn answer_next(
+    alloc: Global,
+    engine: &Engine<ListedFlash>,
+    call: &NextCall,
+) -> Result<Reply, OutOfMemory>
     requires { IsReady engine.now }
     ensures { (processor index : ℕ) → IfOk result (λ reply. IsDone engine.now engine.now processor index (calls.Next call.now) reply) }
 {

@@ -31,10 +31,12 @@ fn kept_in(rt: &impl Abort, alloc: Global, image: &[u8]) -> Result<Option<u8>, F
     };
     match writer.plan(0, 0, &get(alloc, X)?)? {
         Planned {
-            reply: Reply::Get(GetReply::Ok {
-                attributes: _,
-                bytes,
-            }),
+            reply: Reply::Get(
+                GetReply::Ok {
+                    attributes: _,
+                    bytes,
+                },
+            ),
             ..
         } => Ok(bytes.as_slice().first().copied()),
         _ => Ok(None),

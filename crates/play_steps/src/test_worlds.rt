@@ -6,8 +6,8 @@ use std::process::Abort;
 use std::test::Fail;
 use svc_core::{Event, Stepped, World};
 use var_types::{
-    Answered, Bytes, Call, GetCall, GetReply, Guid, NextCall, Reply, Route, SetCall, SetReply, Units,
-    Verdict,
+    Answered, Bytes, Call, GetCall, GetReply, Guid, NextCall, Reply, Route, SetCall, SetReply,
+    Units, Verdict,
 };
 
 const VENDOR: Guid = Guid { bytes: [7; 16] };
@@ -98,10 +98,12 @@ pub(crate) fn end(rt: &impl Abort, world: &mut World<EngineWriter>, processor: u
 /// What is shown of an answered call: its place, its route, and the first byte that a get found, or 0 where a set is a change.
 fn shown(answered: &Answered) -> (u64, Route, Option<u8>) {
     let byte = match &answered.reply {
-        Reply::Get(GetReply::Ok {
-            attributes: _,
-            bytes,
-        }) => bytes.as_slice().first().copied(),
+        Reply::Get(
+            GetReply::Ok {
+                attributes: _,
+                bytes,
+            },
+        ) => bytes.as_slice().first().copied(),
         Reply::Set(SetReply::Ok) => Some(0),
         _ => None,
     };

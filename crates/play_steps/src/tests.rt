@@ -42,7 +42,12 @@ fn three_processors_interleave(rt: HostRuntime) -> Result<(), Fail> {
             (2, Route::Merged { made: 2, held: 1 }, Some(2)),
         ],
     );
-    expect(&rt, &world, 1, &[(1, Route::Deferred { holder: 1 }, Some(0))]);
+    expect(
+        &rt,
+        &world,
+        1,
+        &[(1, Route::Deferred { holder: 1 }, Some(0))],
+    );
     expect(&rt, &world, 2, &[(2, Route::Writer { holder: 1 }, Some(2))]);
     assert_eq!(rt; world.session().made(), 2);
     Ok(())

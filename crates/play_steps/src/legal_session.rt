@@ -92,8 +92,9 @@ fn changes_of(
     answers: &[Answered],
 ) -> Option<usize> {
     let mut least: u64 = 0;
+    let mut index: u32 = 0;
     let mut count: usize = 0;
-    for (index, answered) in answers.iter().enumerate() {
+    for answered in answers {
         if answered.place < least
             || !is_routed(processor, answered)
             || !is_right(alloc, changes, answered)
@@ -102,12 +103,13 @@ fn changes_of(
         }
         least = answered.place;
         if answered.reply.is_change() {
-            if !is_entered(changes, processor, index as u32, answered) {
+            if !is_entered(changes, processor, index, answered) {
                 return None;
             }
             least = least.saturating_add(1);
             count = count.saturating_add(1);
         }
+        index = index.saturating_add(1);
     }
     Some(count)
 }
@@ -115,16 +117,18 @@ fn changes_of(
 /// A session of which each call was answered is legal, and its processors have answered so many calls.
 pub(crate) fn is_legal(alloc: Global, session: &Session, calls: usize) -> bool {
     let changes = session.entries.changes();
+    let mut processor: u8 = 0;
     let mut made: usize = 0;
-    for (processor, answers) in session.processors.iter().enumerate() {
+    for answers in &session.processors {
         let answers = answers.as_slice();
         if answers.len() != calls {
             return false;
         }
-        match changes_of(alloc, changes, processor as u8, answers) {
+        match changes_of(alloc, changes, processor, answers) {
             Some(count) => made = made.saturating_add(count),
             None => return false,
         }
+        processor = processor.saturating_add(1);
     }
     made == changes.len()
 }

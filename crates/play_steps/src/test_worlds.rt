@@ -76,7 +76,7 @@ pub(crate) fn take(rt: &impl Abort, world: &mut World<EngineWriter>, processor: 
 }
 
 /// How many calls a processor has answered.
-fn count_of(world: &World<EngineWriter>, processor: u8) -> usize {
+pub(crate) fn count_of(world: &World<EngineWriter>, processor: u8) -> usize {
     match world.session().processors.get(usize::from(processor)) {
         Some(answers) => answers.as_slice().len(),
         None => 0,
@@ -95,9 +95,9 @@ pub(crate) fn end(rt: &impl Abort, world: &mut World<EngineWriter>, processor: u
     panic!(rt; "the call has no end");
 }
 
-/// What is shown of an answered call: its place, its route, and the first byte that a get found, or 0 where a set is a change.
-fn shown(answered: &Answered) -> (u64, Route, Option<u8>) {
-    let byte = match &answered.reply {
+/// The first byte that a get found, or 0 where a set is a change.
+pub(crate) fn byte_in(reply: &Reply) -> Option<u8> {
+    match reply {
         Reply::Get(
             GetReply::Ok {
                 attributes: _,
@@ -106,8 +106,12 @@ fn shown(answered: &Answered) -> (u64, Route, Option<u8>) {
         ) => bytes.as_slice().first().copied(),
         Reply::Set(SetReply::Ok) => Some(0),
         _ => None,
-    };
-    (answered.place, answered.route, byte)
+    }
+}
+
+/// What is shown of an answered call: its place, its route, and its byte.
+fn shown(answered: &Answered) -> (u64, Route, Option<u8>) {
+    (answered.place, answered.route, byte_in(&answered.reply))
 }
 
 /// A processor's answers are these.

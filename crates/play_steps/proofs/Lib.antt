@@ -1,0 +1,5 @@
+pub mod Listed
+pub mod Marks
+pub mod Done
+pub mod Plans
+pub mod Openings

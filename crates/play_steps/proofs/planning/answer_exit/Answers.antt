@@ -1,0 +1,8 @@
+use Rattle.play_steps.proofs.Done.{opening_stays}
+use Rattle.var_types.specs.declared.call.Call.TheVariants as calls
+use Rattle.var_types.specs.declared.reply.Reply.TheVariants as replies
+use Rattle.play_steps.proofs.planning.answer_exit.Goals as goal
+
+pub returns-clause-opening : goal.returns-clause-opening
+returns-clause-opening c =
+    opening_stays c.args.engine.now c.exit_boot.new.self c.args.processor c.args.index calls.ExitBoot (replies.Exit c.exit_boot.result) c.exit_boot.ensures.answered

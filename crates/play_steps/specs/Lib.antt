@@ -1,0 +1,3 @@
+pub mod ListedFlash
+pub mod Told
+pub mod EngineWriter

@@ -1,0 +1,23 @@
+//! The writer's engine over a flash that lists its steps, as the writer of the core's worlds.
+#![tactic(auto)]
+
+mod beginning;
+mod copies;
+mod engine_writer;
+#[cfg(test)]
+mod legal_session;
+mod listed_flash;
+#[cfg(test)]
+mod order_tests;
+mod planning;
+#[cfg(test)]
+mod power_tests;
+mod reads;
+#[cfg(test)]
+mod test_worlds;
+#[cfg(test)]
+mod tests;
+
+pub use beginning::begin_world;
+pub use engine_writer::EngineWriter;
+pub use listed_flash::ListedFlash;

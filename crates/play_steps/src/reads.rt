@@ -2,15 +2,13 @@
 ghost use Rattle.std.specs.Prelude.{◌≡◌, ◌≤◌, length, IfOk};
 ghost use Rattle.mm_writer.specs.Side.{state_of};
 ghost use Rattle.var_types.specs.Get.{get_reply};
-ghost use Rattle.var_types.specs.Layout.{most_units};
 ghost use Rattle.var_types.specs.Next.{next_reply};
 
 use crate::ListedFlash;
 use mm_writer::Engine;
+use runtime_cache::{copied_get, copied_next};
 use std::alloc::Global;
-use var_types::{
-    Bytes, GetAnswer, GetCall, GetReply, Key, NextAnswer, NextCall, NextReply, OutOfMemory, Units,
-};
+use var_types::{GetCall, GetReply, NextCall, NextReply, OutOfMemory};
 
 fn get_in(
     alloc: Global,
@@ -21,21 +19,8 @@ fn get_in(
     requires { 65536 ≤ length buffer.old }
     ensures { IfOk result (λ reply. reply ≡ get_reply (state_of engine.now.1.1) call.now) }
 {
-    match engine.get(&call.guid, call.name.as_slice(), call.room, buffer) {
-        GetAnswer::NotFound => Ok(GetReply::NotFound),
-        GetAnswer::TooSmall { attributes, needed } => Ok(GetReply::TooSmall { attributes, needed }),
-        GetAnswer::Ok { attributes, length } => {
-            let bytes = Bytes::copy(alloc, &buffer[..length as usize])?;
-            Ok(GetReply::Ok { attributes, bytes })
-        }
-    }
-}
-
-fn units_of(alloc: Global, units: &[u16]) -> Result<Units, OutOfMemory>
-    requires { length units.now ≤ most_units }
-    ensures { IfOk result (λ u. u ≡ units.now) }
-{
-    Ok(Units::from_vec(units.to_vec(alloc)?))
+    let answer = engine.get(&call.guid, call.name.as_slice(), call.room, buffer);
+    copied_get(alloc, answer, buffer)
 }
 
 fn next_in(
@@ -47,17 +32,8 @@ fn next_in(
     requires { length buffer.old ≡ 513 }
     ensures { IfOk result (λ reply. reply ≡ next_reply (state_of engine.now.1.1) call.now) }
 {
-    match engine.next(&call.guid, call.name.as_slice(), call.room, buffer) {
-        NextAnswer::NoSuch => Ok(NextReply::NoSuch),
-        NextAnswer::End => Ok(NextReply::End),
-        NextAnswer::TooSmall { needed } => Ok(NextReply::TooSmall { needed }),
-        NextAnswer::Ok { guid, units } => {
-            let name = units_of(alloc, &buffer[..units as usize])?;
-            Ok(NextReply::Ok {
-                key: Key { guid, name },
-            })
-        }
-    }
+    let answer = engine.next(&call.guid, call.name.as_slice(), call.room, buffer);
+    copied_next(alloc, answer, buffer)
 }
 
 /// Answers GetVariable.

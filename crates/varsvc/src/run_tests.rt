@@ -1,5 +1,5 @@
 //! Runs of scripts on images: what they answer, and what the image keeps behind them.
-use crate::varsvc;
+use crate::{Done, varsvc};
 use flash_dev::{FaultPlan, MemFlash, Torn, format_image};
 use outside::{MemSink, MemSource};
 use std::alloc::{AllocError, Global};
@@ -50,17 +50,17 @@ fn call(
     let mut source = MemSource::new(script.as_bytes().to_vec(alloc)?, Vec::new(alloc));
     let mut sink = MemSink::new(vec![in alloc; 0u8; ROOM]?, Vec::new(alloc));
     let flash = flash_of(alloc, image, fails)?;
-    let done = varsvc(alloc, &words, &mut source, flash, &mut sink);
+    let Done { status, image } = varsvc(alloc, &words, &mut source, flash, &mut sink);
     let text = sink.bytes().to_vec(alloc)?;
-    Ok(match done.image {
+    Ok(match image {
         Some(flash) => Ran {
-            status: done.status,
+            status,
             text,
             calls: flash.calls(),
             image: flash.release(),
         },
         None => Ran {
-            status: done.status,
+            status,
             text,
             calls: 0,
             image: Vec::new(alloc),

@@ -13,6 +13,7 @@ mod image_tests;
 mod input;
 mod inspection;
 mod laws;
+mod number;
 mod order;
 mod parse;
 mod plan;

@@ -38,3 +38,4 @@ module _ (asked : Result Order UsageFault) (told : Told) (same : LeavesUntouched
   usage_text (usage.Dash at) is memory text = usage_of (usage.Dash at) is text
   usage_text (usage.Missing want have) is memory text = usage_of (usage.Missing want have) is text
   usage_text (usage.Extra at) is memory text = usage_of (usage.Extra at) is text
+  usage_text usage.Number is memory text = usage_of usage.Number is text

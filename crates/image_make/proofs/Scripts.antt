@@ -1,9 +1,9 @@
 -- A script is read as its calls, and tells its number modulo 256.
-use Rattle.std.proofs.Common.{◌≡◌, ℕ, ◌+◌, ◌-◌, ◌%◌, ◌≤◌, zero, suc, List, [], ◌∷◌, length, map, get_or, Ok, refl, sym, ap, ap₂, ◌∙◌, arith}
+use Rattle.std.proofs.Common.{◌≡◌, ◌≢◌, ℕ, ◌+◌, ◌-◌, ◌%◌, ◌≤◌, zero, suc, List, [], ◌∷◌, length, map, get_or, Ok, refl, sym, ap, ap₂, ◌∙◌, arith}
 use Rattle.std.specs.List.{range_with_len}
 use Rattle.var_types.specs.declared.call.Call.{Call}
 use Rattle.var_types.specs.declared.call.Call.TheVariants as call
-use Rattle.script_text.specs.Script.{most_script_bytes, script_of}
+use Rattle.script_text.specs.Script.{calls_from, most_script_bytes, script_of}
 use Rattle.image_make.specs.Generated.{first_calls, generated_call, generated_calls, generated_script, lines_text, script_calls}
 use Rattle.image_make.proofs.CallLines.{script_of-lines_text}
 use Rattle.image_make.proofs.Fronts.{length-first_calls}
@@ -26,6 +26,18 @@ unfolding generated_script generated_calls
 script_of-generated_script number =
     script_of-lines_text (first_calls number script_calls) (are_readable-first_calls number script_calls)
     (omega (arith, length-first_calls number script_calls)) (short number)
+
+-- it isn't empty
+no_text : script_of [] ≡ Ok ([] ∷ [])
+unfolding script_of calls_from
+no_text = refl
+
+pub script_has_bytes : (number : ℕ) → generated_script number ≢ []
+script_has_bytes number none =
+    let read : Ok (generated_calls number ∷ []) ≡ Ok ([] ∷ []) = sym (script_of-generated_script number) ∙ ap script_of none ∙ no_text in
+    let calls : generated_calls number ≡ [] = cc in
+    let count : length (generated_calls number) ≡ 0 = ap length calls in
+    absurd (omega (arith, count, length-generated_calls number))
 
 -- the first byte of a set, and of the first of calls
 set_byte : Call → ℕ

@@ -2,16 +2,13 @@ ghost use Rattle.std.specs.Prelude.{◌≡◌, ◌<◌, IfOk};
 ghost use Rattle.image_make.specs.Generated.{bytes_at, generated_call, get_at, name_at, next_from_front, set_at};
 
 use crate::parts::{
-    GET_ROOM, MOST_BYTES, MOST_NUMBER, NEXT_ROOM, SCRIPT_CALLS, SET_ATTRIBUTES, byte_at, count_at,
-    global_variable, name_at,
+    GET_ROOM, MOST_BYTES, NEXT_ROOM, SET_ATTRIBUTES, byte_at, count_at, global_variable, name_at,
 };
 use std::alloc::Global;
 use var_types::{Bytes, Call, GetCall, NextCall, OutOfMemory, SetCall, Units, Verdict};
 
 // The bytes of a set at an index.
 fn data_at(alloc: Global, number: u32, index: u32) -> Result<Bytes, OutOfMemory>
-    requires number { number < MOST_NUMBER }
-    requires index { index < SCRIPT_CALLS }
     ensures { IfOk result (λ bytes. bytes ≡ bytes_at number index) }
 {
     let bytes = [byte_at(number, index); MOST_BYTES];
@@ -20,8 +17,6 @@ fn data_at(alloc: Global, number: u32, index: u32) -> Result<Bytes, OutOfMemory>
 
 // The name of a set at an index.
 fn name_units(alloc: Global, number: u32, index: u32) -> Result<Units, OutOfMemory>
-    requires number { number < MOST_NUMBER }
-    requires index { index < SCRIPT_CALLS }
     ensures { IfOk result (λ units. units ≡ name_at number index) }
 {
     let units = name_at(number, index);
@@ -29,8 +24,6 @@ fn name_units(alloc: Global, number: u32, index: u32) -> Result<Units, OutOfMemo
 }
 
 fn set_at(alloc: Global, number: u32, index: u32) -> Result<Call, OutOfMemory>
-    requires number { number < MOST_NUMBER }
-    requires index { index < SCRIPT_CALLS }
     ensures { IfOk result (λ call. call ≡ set_at number index) }
 {
     let name = name_units(alloc, number, index)?;
@@ -45,9 +38,7 @@ fn set_at(alloc: Global, number: u32, index: u32) -> Result<Call, OutOfMemory>
 }
 
 fn get_at(alloc: Global, number: u32, index: u32) -> Result<Call, OutOfMemory>
-    requires number { number < MOST_NUMBER }
-    requires first { 0 < index }
-    requires index { index < SCRIPT_CALLS }
+    requires { 0 < index }
     ensures { IfOk result (λ call. call ≡ get_at number index) }
 {
     let name = name_units(alloc, number, index - 1)?;
@@ -71,8 +62,6 @@ fn next_from_front(alloc: Global) -> Call
 /// The call at an index of the script of a number; want of memory is its only error.
 #[tactic(auto, unfolding(crate::specs::Generated::generated_call))]
 pub fn generated_call(alloc: Global, number: u32, index: u32) -> Result<Call, OutOfMemory>
-    requires number { number < MOST_NUMBER }
-    requires index { index < SCRIPT_CALLS }
     ensures { IfOk result (λ call. call ≡ generated_call number index) }
 {
     match index % 4 {

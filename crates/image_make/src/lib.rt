@@ -12,5 +12,5 @@ mod tests;
 pub use blank::blank_image;
 pub use calls::generated_call;
 pub use laws::{generated_scripts_are_read, numbers_modulo_256};
-pub use parts::{MOST_NUMBER, SCRIPT_CALLS};
+pub use parts::SCRIPT_CALLS;
 pub use script::make_script;

@@ -7,9 +7,6 @@ use var_types::Guid;
 /// How many calls a generated script has.
 pub const SCRIPT_CALLS: u32 = 4000;
 
-/// Numbers below this one have a script: those of at most six decimal digits.
-pub const MOST_NUMBER: u32 = 1_000_000;
-
 /// How many bytes a set has at most.
 pub(crate) const MOST_BYTES: usize = 200;
 
@@ -44,11 +41,9 @@ fn numbered_name(n: u32) -> [u16; 3]
 
 /// The name of a set at an index.
 pub(crate) fn name_at(number: u32, index: u32) -> [u16; 3]
-    requires number { number < MOST_NUMBER }
-    requires index { index < SCRIPT_CALLS }
     ensures { result ≡ name_at number index }
 {
-    numbered_name((index + number) % 64)
+    numbered_name((index % 64 + number % 64) % 64)
 }
 
 /// How many bytes a set at an index has.
@@ -60,9 +55,7 @@ pub(crate) fn count_at(index: u32) -> usize
 
 /// Each byte of a set at an index.
 pub(crate) fn byte_at(number: u32, index: u32) -> u8
-    requires number { number < MOST_NUMBER }
-    requires index { index < SCRIPT_CALLS }
     ensures { result ≡ (index + number) % 256 }
 {
-    ((index + number) % 256) as u8
+    ((index % 256 + number % 256) % 256) as u8
 }

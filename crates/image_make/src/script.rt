@@ -5,7 +5,7 @@ ghost use Rattle.script_text.specs.Texts.{call_text};
 ghost use Rattle.image_make.specs.Generated.{bytes_at, generated_call, generated_script, get_at, global_variable, line_text, name_at, next_from_front, set_at};
 
 use crate::parts::{
-    GET_ROOM, MOST_BYTES, MOST_NUMBER, NEXT_ROOM, SCRIPT_CALLS, SET_ATTRIBUTES, byte_at, count_at,
+    GET_ROOM, MOST_BYTES, NEXT_ROOM, SCRIPT_CALLS, SET_ATTRIBUTES, byte_at, count_at,
     global_variable, name_at,
 };
 use var_types::Put;
@@ -13,8 +13,6 @@ use var_types::text::{write_attributes, write_bytes, write_name, write_number};
 
 // The bytes of a set at an index.
 fn write_data<P: Put>(number: u32, index: u32, out: &mut P)
-    requires number { number < MOST_NUMBER }
-    requires index { index < SCRIPT_CALLS }
     ensures { P.Puts out.old out.new (bytes_text (bytes_at number index)) }
 {
     let bytes = [byte_at(number, index); MOST_BYTES];
@@ -23,8 +21,6 @@ fn write_data<P: Put>(number: u32, index: u32, out: &mut P)
 
 #[tactic(auto, unfolding(script_text::specs::Texts::call_text))]
 fn write_set<P: Put>(number: u32, index: u32, out: &mut P)
-    requires number { number < MOST_NUMBER }
-    requires index { index < SCRIPT_CALLS }
     ensures { P.Puts out.old out.new (call_text (set_at number index)) }
 {
     out.put(b"set ");
@@ -39,9 +35,7 @@ fn write_set<P: Put>(number: u32, index: u32, out: &mut P)
 
 #[tactic(auto, unfolding(script_text::specs::Texts::call_text))]
 fn write_get<P: Put>(number: u32, index: u32, out: &mut P)
-    requires number { number < MOST_NUMBER }
-    requires first { 0 < index }
-    requires index { index < SCRIPT_CALLS }
+    requires { 0 < index }
     ensures { P.Puts out.old out.new (call_text (get_at number index)) }
 {
     out.put(b"get ");
@@ -66,8 +60,6 @@ fn write_next<P: Put>(out: &mut P)
 
 #[tactic(auto, unfolding(crate::specs::Generated::generated_call))]
 fn write_call_at<P: Put>(number: u32, index: u32, out: &mut P)
-    requires number { number < MOST_NUMBER }
-    requires index { index < SCRIPT_CALLS }
     ensures { P.Puts out.old out.new (call_text (generated_call number index)) }
 {
     match index % 4 {
@@ -78,8 +70,6 @@ fn write_call_at<P: Put>(number: u32, index: u32, out: &mut P)
 }
 
 fn write_line<P: Put>(number: u32, index: u32, out: &mut P)
-    requires number { number < MOST_NUMBER }
-    requires index { index < SCRIPT_CALLS }
     ensures { P.Puts out.old out.new (line_text (generated_call number index)) }
 {
     out.put(b"0 ");
@@ -87,10 +77,9 @@ fn write_line<P: Put>(number: u32, index: u32, out: &mut P)
     out.put(b"\n");
 }
 
-/// Puts the script of a number of at most six decimal digits; takes no memory.
+/// Puts the script of a number; takes no memory.
 #[tactic(auto, unfolding(crate::specs::Generated::generated_script))]
 pub fn make_script<P: Put>(number: u32, out: &mut P)
-    requires { number < MOST_NUMBER }
     ensures { P.Puts out.old out.new (generated_script number) }
 {
     for index in 0..SCRIPT_CALLS {

@@ -1,7 +1,5 @@
 //! Scripts by their first lines and their sums, which `bench/make_script.sh` prints, and the bytes of the blank image.
 
-ghost use Rattle.std.specs.Prelude.{◌<◌};
-
 use super::*;
 use script_text::{read_script, write_call};
 use std::alloc::Global;
@@ -12,9 +10,7 @@ use var_types::{Bytes, Put, TextBuffer};
 const SCRIPT_BYTES: usize = 616_000;
 
 // The script of a number.
-fn script_of(alloc: Global, number: u32) -> Result<Vec<u8>, Fail>
-    requires { number < MOST_NUMBER }
-{
+fn script_of(alloc: Global, number: u32) -> Result<Vec<u8>, Fail> {
     let mut out = TextBuffer::new(alloc);
     make_script(number, &mut out);
     Ok(out.finish()?.into_vec())
@@ -73,9 +69,7 @@ fn scripts_begin_with_two_sets_a_get_and_a_next(rt: HostRuntime) -> Result<(), F
 }
 
 // The texts of the calls of a script, each with a line feed behind it.
-fn made_texts(alloc: Global, number: u32) -> Result<Vec<u8>, Fail>
-    requires { number < MOST_NUMBER }
-{
+fn made_texts(alloc: Global, number: u32) -> Result<Vec<u8>, Fail> {
     let mut out = TextBuffer::new(alloc);
     for index in 0..SCRIPT_CALLS {
         out.put(b"0 ");

@@ -1,5 +1,5 @@
 -- What calls come to, in numbers.
-use Rattle.std.specs.Prelude.{ℕ, Bool, true, false, not, List, [], ◌∷◌, length, count_by, decimal, map}
+use Rattle.std.specs.Prelude.{◌≡◌, ◌++◌, ℕ, Bool, true, false, not, List, [], ◌∷◌, length, count_by, decimal, map}
 use Rattle.report_text.specs.declared.sizes.Sizes.{Sizes}
 use Rattle.report_text.specs.declared.word.Word.TheVariants as word
 use Rattle.report_text.specs.Line.{line_text}
@@ -80,3 +80,10 @@ state_from state (call ∷ calls) = state_from (step state call).1 calls
 -- what calls come to that are made one after the other from a state (this project's own)
 abbrev pub summary_from : State → List Call → Summary
 summary_from state calls = summary_of (replies_from state calls) (sizes_of (state_from state calls).variables)
+
+-- one call more has the service's reply in the state that the calls before it leave, and leaves the state that it leads to (this project's own)
+abbrev pub OneCallMore : Type 0
+OneCallMore =
+    (state : State) (calls : List Call) (call : Call)
+    → (replies_from state (calls ++ call ∷ []) ≡ replies_from state calls ++ (step (state_from state calls) call).0 ∷ [])
+    × (state_from state (calls ++ call ∷ []) ≡ (step (state_from state calls) call).1)

@@ -25,7 +25,7 @@ mod word;
 
 pub use check::{CheckFacts, check_facts, write_check};
 pub use check_word::CheckWord;
-pub use laws::one_report_one_session;
+pub use laws::{one_report_one_session, summaries_grow_by_a_call};
 pub use listing::write_listing;
 pub use outlet::Outlet;
 pub use page::Page;

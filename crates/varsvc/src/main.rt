@@ -31,6 +31,8 @@ mod tests;
 mod top;
 mod usage;
 mod verb;
+#[cfg(test)]
+mod word_tests;
 mod words;
 
 pub use image_name::ImageName;

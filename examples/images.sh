@@ -1,5 +1,5 @@
 #!/usr/bin/env bash
-# Makes an image without variables, puts one record into it by hand, lists it, and runs a script beside it.
+# Makes an image without variables, puts one record into it by hand, as firmware does, runs a script on it, and lists what it keeps.
 # usage: examples/images.sh [IMAGE]      (default: a new file vars.fd in this folder)
 set -eu
 top="$(cd "$(dirname "${BASH_SOURCE[0]}")/.." && pwd)"
@@ -15,4 +15,7 @@ for byte in $(echo "$record" | tr -d ' \n' | fold -w 2); do printf "\\x$byte"; d
     dd of="$image" bs=1 seek=100 conv=notrunc status=none
 "$top/varsvc" list "$image"
 
+# The script sets a volatile variable alone, so what is listed stays.
 "$top/varsvc" run "$image" <"$top/examples/first.script"
+"$top/varsvc" list "$image"
+"$top/varsvc" check "$image"

@@ -2,6 +2,7 @@ ghost use Rattle.std.specs.Prelude.{◌≡◌, ◌-◌, ◌++◌, replicate, IfO
 ghost use Rattle.flash_dev.specs.Blank.{blank_headers, blank_image};
 ghost use Rattle.var_types.specs.Layout.{headers_size, image_size};
 
+use crate::SureFlash;
 use flash_dev::{HEADERS_BYTES, IMAGE_BYTES};
 use std::alloc::Global;
 use var_types::{Bytes, OutOfMemory};
@@ -33,12 +34,25 @@ fn image_with(alloc: Global, headers: &[u8; HEADERS_BYTES]) -> Result<Vec<u8>, O
     Ok(image)
 }
 
-/// Appends the image without variables; where it is out of memory, the list stays as it was.
 #[tactic(auto, unfolding(flash_dev::specs::Blank::blank_image))]
+fn blank_bytes(alloc: Global) -> Result<Vec<u8>, OutOfMemory>
+    ensures { IfOk result (λ image. image.items ≡ blank_image) }
+{
+    image_with(alloc, &blank_headers())
+}
+
+/// Appends the image without variables; where it is out of memory, the list stays as it was.
 pub fn blank_image(alloc: Global, out: &mut Bytes) -> Result<(), OutOfMemory>
     ensures ok { OnOk result (out.new ≡ out.old ++ blank_image) }
     ensures err { OnErr result (out.new ≡ out.old) }
 {
-    let image = image_with(alloc, &blank_headers())?;
+    let image = blank_bytes(alloc)?;
     out.append(&image)
+}
+
+/// A flash in memory, of which no call fails, with the image without variables.
+pub fn blank_flash(alloc: Global) -> Result<SureFlash, OutOfMemory>
+    ensures { IfOk result (λ flash. flash ≡ blank_image) }
+{
+    Ok(SureFlash::new(blank_bytes(alloc)?))
 }

@@ -1,4 +1,4 @@
-//! Scripts and images that are made: the script of a number, and the image without variables.
+//! Scripts and images that are made: the script of a number, the image without variables, and a flash in memory that never fails.
 #![tactic(auto)]
 
 mod blank;
@@ -6,11 +6,13 @@ mod calls;
 mod laws;
 mod parts;
 mod script;
+mod sure_flash;
 #[cfg(test)]
 mod tests;
 
-pub use blank::blank_image;
-pub use calls::generated_call;
+pub use blank::{blank_flash, blank_image};
+pub use calls::{generated_call, generated_calls};
 pub use laws::{generated_scripts_are_read, numbers_modulo_256};
 pub use parts::SCRIPT_CALLS;
 pub use script::make_script;
+pub use sure_flash::SureFlash;

@@ -1,6 +1,7 @@
 //! Scripts by their first lines and their sums, which `bench/make_script.sh` prints, and the bytes of the blank image.
 
 use super::*;
+use flash_dev::Flash;
 use script_text::{read_script, write_call};
 use std::alloc::Global;
 use std::test::Fail;
@@ -118,5 +119,21 @@ fn the_blank_image_has_its_headers(rt: HostRuntime) -> Result<(), Fail> {
     assert_eq!(rt; headers.as_str(), want);
     assert_eq!(rt; image.len(), 131_073);
     assert!(rt; image.iter().skip(101).all(|byte| *byte == 0xFF));
+    Ok(())
+}
+
+#[test]
+fn a_sure_flash_keeps_what_is_done(rt: HostRuntime) -> Result<(), Fail> {
+    let mut flash = blank_flash(rt.alloc())?;
+    assert_eq!(rt; flash.len(), 131_072);
+    flash.program(8_190, &[0x5a, 0xa5, 0x00])?;
+    flash.program(8_190, &[0xf0, 0xff, 0xff])?;
+    let mut piece = [0; 4];
+    flash.read(8_189, &mut piece)?;
+    assert_eq!(rt; piece, [0xff, 0x50, 0xa5, 0x00]);
+    flash.erase(1)?;
+    flash.read(8_189, &mut piece)?;
+    assert_eq!(rt; piece, [0xff, 0xff, 0xff, 0x00]);
+    assert_eq!(rt; flash.faults(), 0);
     Ok(())
 }

@@ -9,11 +9,7 @@ use std::alloc::Global;
 use var_types::{Bytes, GetAnswer, GetReply, Key, NextAnswer, NextReply, OutOfMemory, Units};
 
 /// The reply of GetVariable for an answer, with the data copied from the buffer that took them.
-pub fn copied_get(
-    alloc: Global,
-    answer: GetAnswer,
-    buffer: &[u8],
-) -> Result<GetReply, OutOfMemory>
+pub fn copied_get(alloc: Global, answer: GetAnswer, buffer: &[u8]) -> Result<GetReply, OutOfMemory>
     requires answered { (reply : GetReplied) × IsGetAnswered answer buffer.now reply }
     ensures reply { (reply : GetReplied) → IsGetAnswered answer buffer.now reply → IfOk result (λ r. r ≡ reply) }
 {

@@ -3,19 +3,15 @@ ghost use Rattle.std.specs.Prelude.{◌≡◌, ◌≤◌, true, length, IfOk};
 ghost use Rattle.var_trace.specs.Routes.{is_read};
 ghost use Rattle.var_types.specs.declared.store.Store.TheVariants.{NonVolatile, Volatile};
 ghost use Rattle.var_types.specs.Get.{get_reply};
-ghost use Rattle.var_types.specs.Layout.{most_units};
 ghost use Rattle.var_types.specs.Next.{next_reply};
 ghost use Rattle.var_types.specs.Stores.{map_in, state_in};
 ghost use Rattle.var_types.specs.TwoRegions.{AreApart};
 ghost use Rattle.svc_core.specs.World.{look};
 
 use crate::buffers::Buffers;
-use runtime_cache::Cache;
+use runtime_cache::{Cache, copied_get, copied_next};
 use std::alloc::Global;
-use var_types::{
-    Bytes, Call, GetAnswer, GetCall, GetReply, Key, NextAnswer, NextCall, NextReply, OutOfMemory,
-    Reply, Units,
-};
+use var_types::{Call, GetCall, GetReply, NextCall, NextReply, OutOfMemory, Reply};
 
 fn get_in(
     alloc: Global,
@@ -26,21 +22,8 @@ fn get_in(
     requires { 65536 ≤ length buffer.old }
     ensures { IfOk result (λ reply. reply ≡ get_reply (state_in cache.now) call.now) }
 {
-    match cache.get(&call.guid, call.name.as_slice(), call.room, buffer) {
-        GetAnswer::NotFound => Ok(GetReply::NotFound),
-        GetAnswer::TooSmall { attributes, needed } => Ok(GetReply::TooSmall { attributes, needed }),
-        GetAnswer::Ok { attributes, length } => {
-            let bytes = Bytes::copy(alloc, &buffer[..length as usize])?;
-            Ok(GetReply::Ok { attributes, bytes })
-        }
-    }
-}
-
-fn units_of(alloc: Global, units: &[u16]) -> Result<Units, OutOfMemory>
-    requires { length units.now ≤ most_units }
-    ensures { IfOk result (λ u. u ≡ units.now) }
-{
-    Ok(Units::from_vec(units.to_vec(alloc)?))
+    let answer = cache.get(&call.guid, call.name.as_slice(), call.room, buffer);
+    copied_get(alloc, answer, buffer)
 }
 
 fn next_in(
@@ -53,17 +36,8 @@ fn next_in(
     requires buffer { length buffer.old ≡ 513 }
     ensures { IfOk result (λ reply. reply ≡ next_reply (state_in cache.now) call.now) }
 {
-    match cache.next(&call.guid, call.name.as_slice(), call.room, buffer) {
-        NextAnswer::NoSuch => Ok(NextReply::NoSuch),
-        NextAnswer::End => Ok(NextReply::End),
-        NextAnswer::TooSmall { needed } => Ok(NextReply::TooSmall { needed }),
-        NextAnswer::Ok { guid, units } => {
-            let name = units_of(alloc, &buffer[..units as usize])?;
-            Ok(NextReply::Ok {
-                key: Key { guid, name },
-            })
-        }
-    }
+    let answer = cache.next(&call.guid, call.name.as_slice(), call.room, buffer);
+    copied_next(alloc, answer, buffer)
 }
 
 /// Looks in a cache for a read, and copies what it answers.

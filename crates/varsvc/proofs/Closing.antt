@@ -48,9 +48,9 @@ accepted_image image is = by (content_geometry image) (is_blank (spare image)) (
 no_call : (first : State) → IsLegalSession first [] ([] ∷ [])
 no_call first = record {
   right = (tt, tt);
-  ordered = All-cons (AreOrderedFrom 0) [] [] (tt, All-nil (AreOrderedFrom 0));
+  ordered = All-cons (AreOrderedFrom 0) [] [] tt (All-nil (AreOrderedFrom 0));
   once = (refl, All-nil (λ (entry : Entry). entry.processor < 1));
-  plain = All-cons ArePlain [] [] (All-nil (λ (a : Answered). a.route ≡ Plain), All-nil ArePlain);
+  plain = All-cons ArePlain [] [] (All-nil (λ (a : Answered). a.route ≡ Plain)) (All-nil ArePlain);
 }
 
 -- the state of a side without changes is that from which it opened
@@ -58,7 +58,7 @@ state_first : (side : Side) → side.log ≡ [] → state_of side ≡ first_stat
 unfolding state_of
 state_first side empty = ap (λ (log : List Change). run (first_state side) (history_in log)) empty
 
-module _ {F : Type 0} {size fault_count moment : F → ℕ} {left_since : F → ℕ → List ℕ → Type 0} {holds : F → Option (List ℕ)} (flash : F) (calls : ℕ) (opened : F × (Option (List ℕ) × Side)) (o : IsOpened fault_count moment left_since holds flash calls opened) (kept_then : opened.1.0 ≡ None → IfSome (holds opened.0) (IsKeptBy opened.1.1)) where
+module _ {F : Type 0} {fault_count moment : F → ℕ} {left_since : F → ℕ → List ℕ → Type 0} {holds : F → Option (List ℕ)} (flash : F) (calls : ℕ) (opened : F × (Option (List ℕ) × Side)) (o : IsOpened fault_count moment left_since holds flash calls opened) (kept_then : opened.1.0 ≡ None → IfSome (holds opened.0) (IsKeptBy opened.1.1)) where
   -- the image that was opened kept the variables of the first state, at each moment of the opening too
   kept_first : (image : List ℕ) → holds flash ≡ Some image → kept image ≡ part NonVolatile (first_state opened.1.1).variables
   kept_first image told =
@@ -67,8 +67,8 @@ module _ {F : Type 0} {size fault_count moment : F → ℕ} {left_since : F → 
     where
       from : (now : Option (List ℕ)) → IsSomeAnd now (IsOpeningLeft image) → IfSome now (IsKeptBy opened.1.1)
           → kept image ≡ part NonVolatile (state_of opened.1.1).variables
-      from None is kept = absurd is
-      from (Some left) is kept = sym is.kept ∙ kept
+      from None is held = absurd is
+      from (Some left) is held = sym is.kept ∙ held
 
   front_opened : (image left : List ℕ) → holds flash ≡ Some image → IsOpeningLeft image left → IsFrontLeft opened.1.1 image left
   front_opened image left told is =
@@ -87,7 +87,7 @@ module _ {F : Type 0} {size fault_count moment : F → ℕ} {left_since : F → 
     at_any_moment = λ _. stays_weaken IsOpeningLeft (IsFrontLeft opened.1.1) flash opened.0 o.at_any_moment (λ image left told is. front_opened image left told is);
   }
 
-  module _ (only_now : (left : List ℕ) → left_since flash (moment flash) left → IfSome (holds flash) (λ image. left ≡ image)) (input : Option (List ℕ)) (closed : F × (Option (List ℕ) × Side)) (xs : List Answered) (ran : HasRun fault_count moment left_since holds (first_state opened.1.1) flash closed xs) (count : length xs ≡ calls) (kept_now : closed.1.0 ≡ None → IfSome (holds closed.0) (IsKeptBy closed.1.1)) where
+  module _ (only_now : (left : List ℕ) → left_since flash (moment flash) left → IfSome (holds flash) (λ image. left ≡ image)) (closed : F × (Option (List ℕ) × Side)) (xs : List Answered) (ran : HasRun fault_count moment left_since holds (first_state opened.1.1) flash closed xs) (count : length xs ≡ calls) (kept_now : closed.1.0 ≡ None → IfSome (holds closed.0) (IsKeptBy closed.1.1)) where
     -- the first state by the image
     pub first_on : IfSome (holds flash) (λ image. first_state opened.1.1 ≡ start_on image (length xs))
     first_on = some (holds flash) o.state
@@ -109,7 +109,7 @@ module _ {F : Type 0} {size fault_count moment : F → ℕ} {left_since : F → 
 
     front_is : (image left : List ℕ) → IsFrontLeft closed.1.1 image left
         → (k : ℕ) × (k ≤ length (history_of xs)) × (kept left ≡ variables_at (first_state opened.1.1) xs k)
-    front_is image left (k, within, is) = let e = as_many in (k, (omega (arith, within, e), is ∙ variables_are k))
+    front_is image left (k, within, is) = let e = as_many in (k, omega (arith, within, e), is ∙ variables_are k)
 
     -- all of it
     whole : (left : List ℕ) → IsKeptBy closed.1.1 left → kept left ≡ variables_at (first_state opened.1.1) xs (length (history_of xs))
@@ -122,21 +122,22 @@ module _ {F : Type 0} {size fault_count moment : F → ℕ} {left_since : F → 
 
     kept_end : (told : Option (List ℕ)) → Leaves (IsFrontLeft closed.1.1) told (holds closed.0) → IfSome (holds closed.0) (IsKeptBy closed.1.1)
         → IfSome told (λ image. IsSomeAnd (holds closed.0) (λ left. kept left ≡ variables_at (first_state opened.1.1) xs (length (history_of xs))))
-    kept_end None stays kept = tt
-    kept_end (Some image) stays kept = from (holds closed.0) stays kept
+    kept_end None stays held = tt
+    kept_end (Some image) stays held = from (holds closed.0) stays held
       where
         from : (now : Option (List ℕ)) → IsSomeAnd now (IsFrontLeft closed.1.1 image) → IfSome now (IsKeptBy closed.1.1)
             → IsSomeAnd now (λ left. kept left ≡ variables_at (first_state opened.1.1) xs (length (history_of xs)))
-        from None is kept = absurd is
-        from (Some left) is kept = whole left kept
+        from None is held = absurd is
+        from (Some left) is held = whole left held
 
     fronts : (told : Option (List ℕ)) (left : List ℕ) → IfSome told (λ image. IsFrontLeft closed.1.1 image left)
         → IfSome told (λ image. (k : ℕ) × (k ≤ length (history_of xs)) × (kept left ≡ variables_at (first_state opened.1.1) xs k))
     fronts None left is = tt
     fronts (Some image) left is = front_is image left is
 
-    pub leaves_on : LeavesRun (told_of holds size fault_count moment left_since input flash closed.0) (first_state opened.1.1) xs
-    leaves_on = record {
+    pub leaves_on : (size : F → ℕ) (input : Option (List ℕ))
+        → LeavesRun (told_of holds size fault_count moment left_since input flash closed.0) (first_state opened.1.1) xs
+    leaves_on size input = record {
       keeps = λ not. kept_end (holds flash) (ran.at_any_moment not).now (kept_now (ran.sure not));
       at_any_moment = λ not.
           later (holds flash)
@@ -144,7 +145,7 @@ module _ {F : Type 0} {size fault_count moment : F → ℕ} {left_since : F → 
           fronts (holds flash) left
           (stays_since (IsFrontLeft closed.1.1) flash closed.0 left (ran.at_any_moment not) (only_now left)
           (λ image told.
-          (0, (omega arith, kept_first image told ∙ ap (λ (s : State). part NonVolatile s.variables) (sym ran.opened)))) since));
+          (0, omega arith, kept_first image told ∙ ap (λ (s : State). part NonVolatile s.variables) (sym ran.opened))) since));
       calm = ran.calm;
       failed = ran.failed;
     }

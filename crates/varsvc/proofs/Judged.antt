@@ -103,11 +103,6 @@ verdict_run told status j = (
       (⊎_elim (λ h. absurd h.1)
       (⊎_elim (λ h. absurd (no_script told.input j.text is.1 h.1)) (⊎_elim (λ h. inl (h.0 ∙ sym is.0)) inr))) j.ended),
 )
-verdict_run : (input : Option (List ℕ)) (status : ℕ) → IsJudged (run_row input) status → IsVerdict (run_row input) status
-verdict_run input status j = (
-  λ is. ⊎_elim (λ h. inl h.0) (⊎_elim (λ h. absurd h.1) (⊎_elim (λ h. absurd (no_script input j.text is h.1)) (⊎_elim (λ h. absurd h.1) inr))) j.ended,
-  λ is. ⊎_elim (λ h. absurd (no_report input false j.text is h.1)) (⊎_elim (λ h. absurd h.1) (⊎_elim (λ h. inl h.0) (⊎_elim (λ h. absurd h.1) inr))) j.ended,
-)
 
 verdict_inspection : (what : Inspection) (image : Option (List ℕ)) (size status : ℕ) → IsJudged (inspection_row what image size) status
     → IsVerdict (inspection_row what image size) status

@@ -1,6 +1,7 @@
 pub mod Positions
 pub mod Running
 pub mod Closing
+pub mod Refusals
 pub mod Inputs
 pub mod Scripts
 pub mod PlannedTexts
@@ -10,6 +11,7 @@ pub mod Volumes
 pub mod Usages
 pub mod Judged
 pub mod OneSession
+pub mod OneProcessor
 pub mod BlankImages
 pub mod Streams
 pub mod Cli

@@ -75,15 +75,15 @@ behind old new index call reply a =
     (cases_Bool (is_change reply))
 
 -- as many entries as changes
-length_history : (side : Side) → length (history_in side.log) ≡ length side.log
+pub length_history : (side : Side) → length (history_in side.log) ≡ length side.log
 length_history side = length-map side.log (λ (change : Change). change.entry)
 
 -- an image that keeps the variables of now keeps those after a front of the history, which is the whole
-front_now : (side : Side) (image left : List ℕ) → IsKeptBy side left → IsFrontLeft side image left
+pub front_now : (side : Side) (image left : List ℕ) → IsKeptBy side left → IsFrontLeft side image left
 unfolding state_of
 front_now side image left is =
     let all = take_all (length side.log) (history_in side.log) (omega (arith, length_history side)) in
-    (length side.log, (omega arith, is ∙ ap (λ (es : List Entry). part NonVolatile (run (first_state side) es).variables) (sym all)))
+    (length side.log, omega arith, is ∙ ap (λ (es : List Entry). part NonVolatile (run (first_state side) es).variables) (sym all))
 
 -- a front of a history is one of a longer history
 front_longer : (old new : Side) (image left : List ℕ) → IsBehind old new → IsFrontLeft old image left → IsFrontLeft new image left
@@ -91,10 +91,13 @@ front_longer old new image left b (k, within, is) =
     let len = length_history old in
     let longer = length_history new in
     let joined = ap (λ (es : List Entry). length es) b.history ∙ length-append (history_in old.log) b.more in
-    let front = ap (take k) b.history ∙ take-append-le k (history_in old.log) b.more (omega (arith, len, within)) in
-    (k, (omega (arith, len, longer, joined, within),
-    is ∙ sym (ap (λ (s : State). part NonVolatile (run s (take k (history_in new.log))).variables) b.first
-    ∙ ap (λ (es : List Entry). part NonVolatile (run (first_state old) es).variables) front)))
+    let front = ap (take k) b.history ∙ take-append-le k (history_in old.log) b.more (omega (arith, len, within)) in (
+      k,
+      omega (arith, len, longer, joined, within),
+      is
+          ∙ sym (ap (λ (s : State). part NonVolatile (run s (take k (history_in new.log))).variables) b.first
+          ∙ ap (λ (es : List Entry). part NonVolatile (run (first_state old) es).variables) front),
+    )
 
 -- ---- counts
 

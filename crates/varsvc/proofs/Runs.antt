@@ -1,5 +1,5 @@
 -- From the plan of a run to the text of its status.
-use Rattle.std.proofs.Common.{◌≡◌, ◌≢◌, ◌⊎◌, ℕ, ◌<◌, ◌≤◌, Bool, true, false, List, [], ◌∷◌, length, Option, Some, None, Result, Ok, Err, IfSome, IsOk, refl, sym, ap, ◌∙◌, subst, inl, inr, ⊎_elim, arith, lit<, if◌then◌else◌, All, ◌||◌}
+use Rattle.std.proofs.Common.{◌≡◌, ◌≢◌, ◌⊎◌, ℕ, ◌+◌, ◌<◌, ◌≤◌, Bool, true, false, List, [], ◌∷◌, length, map, Option, Some, None, Result, Ok, Err, IfSome, IsOk, refl, sym, ap, ◌∙◌, subst, inl, inr, ⊎_elim, arith, lit<, if◌then◌else◌, All, ◌||◌}
 use Rattle.std.specs.List.{list_any}
 use Rattle.std.proofs.lemmas.Bool.{cases_lt}
 use Rattle.std.proofs.lemmas.List.Elements.{All-cons, All-head, All-nil, All-tail}
@@ -10,11 +10,13 @@ use Rattle.report_text.specs.Session.{report_of}
 use Rattle.report_text.specs.Values.{AnswerHasValues, HaveValues}
 use Rattle.script_text.specs.declared.script_fault.ScriptFault.{ScriptFault}
 use Rattle.script_text.specs.Script.{script_of, most_script_bytes}
+use Rattle.var_trace.specs.Answers.{AnsweredCalls}
 use Rattle.var_trace.specs.Session.{SessionParts, answers_of}
 use Rattle.var_trace.specs.StoresAfter.{history_in}
 use Rattle.var_types.specs.declared.answered.Answered.{Answered}
 use Rattle.var_types.specs.declared.call.Call.{Call}
-use Rattle.var_types.specs.History.{Entry}
+use Rattle.var_types.proofs.ReplyKinds.{IsOfKind-reply}
+use Rattle.var_types.specs.History.{Entry, after}
 use Rattle.var_types.specs.Laws.{RightRepliesFit}
 use Rattle.var_types.specs.Session.{AreRight, history_of}
 use Rattle.var_types.specs.State.{State}
@@ -24,7 +26,7 @@ use Rattle.varsvc.specs.declared.plan.Plan.TheVariants.{Print, Stream, InputFaul
 use Rattle.varsvc.specs.declared.streamed.Streamed.TheVariants as streamed
 use Rattle.varsvc.specs.Input.{IsInput, most_read}
 use Rattle.varsvc.specs.Outcome.{FlashFails, IsText, run_row}
-use Rattle.varsvc.specs.Plan.{HasPlanValues, IsStreamed, PlansLine, report_status, status_of, text_of}
+use Rattle.varsvc.specs.Plan.{HasPlanValues, IsStreamed, PlansLine, lacks_in, report_status, status_of, text_of}
 use Rattle.varsvc.specs.FaultLines.{script_line}
 use Rattle.varsvc.specs.RunPlan.{IsRunOf, PlansRun}
 use Rattle.varsvc.specs.Runs.{LeavesUntouched, RefusesScript, Reports, Runs, SaysSame, WasRun, lacks_any}
@@ -40,16 +42,19 @@ kinds : RightRepliesFit → (state : State) (history : List Entry) (processor in
     → All (λ a. IsOfKind a.call a.reply) xs
 kinds fit state history processor index [] right = All-nil (λ (a : Answered). IsOfKind a.call a.reply)
 kinds fit state history processor index (x ∷ xs) right =
-    All-cons (λ (a : Answered). IsOfKind a.call a.reply) x xs
-    (fit state history x.place processor index x.call x.reply right.0, kinds fit state history processor (index + 1) xs right.1)
+    All-cons (λ (a : Answered). IsOfKind a.call a.reply) x xs (fit state history x.place processor index x.call x.reply right.0)
+    (kinds fit state history processor (index + 1) xs right.1)
 
 -- replies of their calls' kinds that have values
 all_fitting : (xs : List Answered) → All (λ a. IsOfKind a.call a.reply) xs → All AnswerHasValues xs → All IsFitting xs
 all_fitting [] kinds values = All-nil IsFitting
 all_fitting (x ∷ xs) kinds values =
-    All-cons IsFitting x xs
-    ((All-head (λ (a : Answered). IsOfKind a.call a.reply) x xs kinds, All-head AnswerHasValues x xs values),
-    all_fitting xs (All-tail (λ (a : Answered). IsOfKind a.call a.reply) x xs kinds) (All-tail AnswerHasValues x xs values))
+    All-cons IsFitting x xs (All-head (λ (a : Answered). IsOfKind a.call a.reply) x xs kinds, All-head AnswerHasValues x xs values)
+    (all_fitting xs (All-tail (λ (a : Answered). IsOfKind a.call a.reply) x xs kinds) (All-tail AnswerHasValues x xs values))
+
+-- a reply that is right at its place is of its call's kind
+pub right_fits : RightRepliesFit
+right_fits state history place processor index call reply right = IsOfKind-reply (after state history place) call reply right.reply_is
 
 -- ---- the plan of a run
 
@@ -66,6 +71,11 @@ any_one xs = one (lacks_any xs)
     one : (b : Bool) → (b || false) ≡ b
     one true = refl
     one false = refl
+
+any_of : (processors : List AnsweredCalls)
+    → list_any (λ (answers : AnsweredCalls). lacks_any answers.answered) processors ≡ list_any lacks_any (map (λ (answers : AnsweredCalls). answers.answered) processors)
+any_of [] = refl
+any_of (answers ∷ rest) = ap (λ b. lacks_any answers.answered || b) (any_of rest)
 
 module _ (fit : RightRepliesFit) (told : Told) (calls : List Call) (script : IfSome told.input (λ input. script_of input ≡ Ok (calls ∷ []))) where
   module _ (session : SessionParts) (run : IsRunOf told calls session) where
@@ -94,9 +104,9 @@ module _ (fit : RightRepliesFit) (told : Told) (calls : List Call) (script : IfS
     session_is_text : HaveValues (answers_of session)
         → IsText (run_row told) (report_status session) (session_text (history_in session.entries.log) (answers_of session))
     session_is_text values =
-        let same = ap (list_any lacks_any) run.by.answers ∙ any_one run.answered in
-        elim (list_any lacks_any (answers_of session))
-        as (λ (b : Bool). list_any lacks_any (answers_of session) ≡ b
+        let same = any_of session.processors ∙ ap (list_any lacks_any) run.by.answers ∙ any_one run.answered in
+        elim (lacks_in session)
+        as (λ (b : Bool). lacks_in session ≡ b
         → IsText (run_row told) (if b then 8 else 0) (session_text (history_in session.entries.log) (answers_of session))) [
           | true ↦ λ is. text_lacking (run_row told) _ (inr (reports_told true values (sym same ∙ is)))
           | false ↦ λ is. text_done (run_row told) _ (reports_told false values (sym same ∙ is))
@@ -132,9 +142,9 @@ other_than n other false e none memory = λ is. none (sym is ∙ e)
 
 -- it is no failed read
 pub run_status : (told : Told) (calls : List Call) (plan : Plan) → PlansRun told calls plan → status_of plan ≢ 6
-run_status told calls (Print s t) (is, rest) = λ e. omega (arith, is, e)
+run_status told calls (Print s t) (is, refuses, untouched) = λ e. omega (arith, is, e)
 run_status told calls (Stream (streamed.Report session)) planned =
-    other_than (report_status session) 6 (list_any lacks_any (answers_of session)) refl (λ e. omega (arith, e)) (λ e. omega (arith, e))
+    other_than (report_status session) 6 (lacks_in session) refl (λ e. omega (arith, e)) (λ e. omega (arith, e))
 run_status told calls (Stream (streamed.Listing content)) planned = absurd planned
 run_status told calls InputFault planned = absurd planned
 run_status told calls DeviceFault planned = λ e. omega (arith, e)
@@ -146,9 +156,9 @@ pub run_fails : (told : Told) (calls : List Call) (plan : Plan) → PlansRun tol
 run_fails told calls plan planned = record { rose = rose plan planned; stands = λ e. cc }
   where
     rose : (plan : Plan) → PlansRun told calls plan → status_of plan ≡ 7 → HasRisen told.faults told.faults_after
-    rose (Print s t) (is, rest) e = absurd (omega (arith, is, e))
+    rose (Print s t) (is, refuses, untouched) e = absurd (omega (arith, is, e))
     rose (Stream (streamed.Report session)) planned e =
-        absurd (other_than (report_status session) 7 (list_any lacks_any (answers_of session)) refl (λ e. omega (arith, e)) (λ e. omega (arith, e)) e)
+        absurd (other_than (report_status session) 7 (lacks_in session) refl (λ e. omega (arith, e)) (λ e. omega (arith, e)) e)
     rose (Stream (streamed.Listing content)) planned e = absurd planned
     rose InputFault planned e = absurd planned
     rose DeviceFault planned e = planned.1

@@ -1,6 +1,5 @@
 -- What is printed while it is written, and what a plan comes to.
 use Rattle.std.proofs.Common.{◌≡◌, ◌≢◌, ◌⊎◌, ℕ, Bool, true, false, List, [], ◌∷◌, ◌++◌, length, decimal, flat_map, Option, refl, sym, ◌∙◌, subst, inl, inr, ⊎_elim, append_assoc, arith, if◌then◌else◌, Result, Ok, Err}
-use Rattle.std.specs.List.{list_any}
 use Rattle.report_text.specs.Flow.{Flow, PutsThrough, empty}
 use Rattle.report_text.specs.Line.{line_text}
 use Rattle.report_text.specs.declared.word.Word.TheVariants as word
@@ -23,9 +22,8 @@ use Rattle.varsvc.specs.declared.streamed.Streamed.TheVariants.{Listing, Report}
 use Rattle.varsvc.specs.declared.usage.UsageFault.{UsageFault}
 use Rattle.varsvc.specs.FaultLines.{memory_line}
 use Rattle.varsvc.specs.Outcome.{Counts, FailsAt, FlashFails, IsPlanned, IsText, LeavesImage, Prints, ReadsInput, Row, row}
-use Rattle.varsvc.specs.Plan.{ComesTo, Gains, HasPlanValues, IsOutcome, IsPrintable, IsStreamed, report_status, status_of, streamed_status, streamed_text, text_of}
+use Rattle.varsvc.specs.Plan.{ComesTo, Gains, HasPlanValues, IsOutcome, IsPrintable, IsStreamed, lacks_in, report_status, status_of, streamed_status, streamed_text, text_of}
 use Rattle.report_text.specs.Report.{entry_line, history_lines, indexed, processor_lines, session_text}
-use Rattle.varsvc.specs.Runs.{lacks_any}
 use Rattle.varsvc.specs.Told.{Told}
 use Rattle.varsvc.proofs.PlannedTexts.{text_short}
 
@@ -35,7 +33,7 @@ two_statuses true n e = inr e
 two_statuses false n e = inl e
 
 streamed_statuses : (s : Streamed) → (streamed_status s ≡ 0) ⊎ (streamed_status s ≡ 8)
-streamed_statuses (Report session) = two_statuses (list_any lacks_any (answers_of session)) (report_status session) refl
+streamed_statuses (Report session) = two_statuses (lacks_in session) (report_status session) refl
 streamed_statuses (Listing content) = inl refl
 
 other_than : (fault status : ℕ) → fault ≢ 0 → fault ≢ 8 → (status ≡ 0) ⊎ (status ≡ 8) → status ≢ fault

@@ -1,5 +1,5 @@
 -- What a call of the program is to print.
-use Rattle.std.specs.Prelude.{◌≡◌, ◌≢◌, ◌⊎◌, ℕ, true, false, List, Option, if◌then◌else◌}
+use Rattle.std.specs.Prelude.{◌≡◌, ◌≢◌, ◌⊎◌, ℕ, Bool, true, false, List, Option, if◌then◌else◌}
 use Rattle.std.specs.List.{list_any}
 use Rattle.std.specs.Io.KnownBytes.{Appends}
 use Rattle.flash_dev.specs.declared.image_fault.ImageFault.{ImageFault}
@@ -10,6 +10,7 @@ use Rattle.report_text.specs.Check.{check_text, facts_of}
 use Rattle.report_text.specs.Listing.{listing_text}
 use Rattle.report_text.specs.Report.{session_text}
 use Rattle.report_text.specs.Values.{HaveValues}
+use Rattle.var_trace.specs.Answers.{AnsweredCalls}
 use Rattle.var_trace.specs.Session.{SessionParts, answers_of}
 use Rattle.var_trace.specs.StoresAfter.{history_in}
 use Rattle.var_types.specs.Layout.{headers_size}
@@ -37,9 +38,12 @@ abbrev pub content_text : Inspection → Kept → List ℕ → List ℕ
 content_text inspection.Listing kept content = volume_listing content
 content_text inspection.Check kept content = check_text (facts_of (volume_region content) kept.state kept.blank)
 
--- the status of a session's report: some reply to a processor is out of memory, or none
+-- whether some reply of a session is out of memory, and the status of its report
+abbrev pub lacks_in : SessionParts → Bool
+lacks_in session = list_any (λ (answers : AnsweredCalls). lacks_any answers.answered) session.processors
+
 abbrev pub report_status : SessionParts → ℕ
-report_status session = if list_any lacks_any (answers_of session) then 8 else 0
+report_status session = if lacks_in session then 8 else 0
 
 -- what is printed while it is written: its status, its text, and that its parts are values of their types
 abbrev pub streamed_status : Streamed → ℕ

@@ -1,5 +1,5 @@
 -- What a run of a script on an image prints and leaves.
-use Rattle.std.specs.Prelude.{◌≡◌, ◌⊎◌, ℕ, ◌+◌, ◌-◌, ◌^◌, ◌≤◌, Bool, List, [], ◌∷◌, length, filter, max, Option, Ok, Err, IsErr, IsOk, IfSome, IsSomeAnd, All}
+use Rattle.std.specs.Prelude.{◌≡◌, ◌⊎◌, ℕ, ◌+◌, ◌-◌, ◌^◌, ◌≤◌, Bool, false, List, [], ◌∷◌, length, filter, max, Option, Ok, Err, IsErr, IsOk, IfSome, IsSomeAnd, All}
 use Rattle.std.specs.List.{list_any}
 use Rattle.ftw_mount.specs.Mount.{content_geometry}
 use Rattle.outside.specs.Faults.{HasRisen}
@@ -14,7 +14,7 @@ use Rattle.var_types.specs.declared.variable.Variable.{Variable}
 use Rattle.var_types.specs.DeviceErrors.{is_device_error}
 use Rattle.var_types.specs.History.{after}
 use Rattle.var_types.specs.Kept.{IsSound, kept}
-use Rattle.var_types.specs.Session.{IsLegalSession, calls_of, history_of}
+use Rattle.var_types.specs.Session.{AreStepped, IsLegalSession, calls_of, history_of}
 use Rattle.var_types.specs.State.{State, start}
 use Rattle.var_types.specs.Step.{lacks_memory}
 use Rattle.var_types.specs.Stores.{part}
@@ -102,3 +102,14 @@ abbrev pub OneTextOneSession : Type 0
 OneTextOneSession =
     (input : List ℕ) (xs ys : List Answered) → script_of input ≡ Ok (calls_of xs ∷ []) → script_of input ≡ Ok (calls_of ys ∷ [])
     → All IsFitting xs → All IsFitting ys → report_of xs ≡ report_of ys → xs ≡ ys
+
+-- a reply that says neither that memory is wanting nor that the flash failed
+abbrev pub IsCalmAnswer : Answered → Type 0
+IsCalmAnswer a = (lacks_memory a.call a.reply ≡ false) × (is_device_error a.reply ≡ false)
+
+-- where nothing failed and no memory was wanting, the calls of a legal session of one processor, in their order, were stepped through the
+-- one-thread service: its history, its places and its replies are that service's (this project's own)
+abbrev pub OneProcessorIsStepped : Type 0
+OneProcessorIsStepped =
+    (first : State) (answered : List Answered) → first.made ≡ 0 → IsLegalSession first (history_of answered) (answered ∷ [])
+    → All IsCalmAnswer answered → AreStepped first answered

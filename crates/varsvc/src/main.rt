@@ -23,6 +23,8 @@ mod program;
 #[cfg(test)]
 mod program_tests;
 mod run_plan;
+#[cfg(test)]
+mod run_tests;
 mod runner;
 mod serving;
 mod streamed;
@@ -36,7 +38,10 @@ mod word_tests;
 mod words;
 
 pub use image_name::ImageName;
-pub use laws::{blank_images_keep_nothing, calls_are_judged, one_text_one_session};
+pub use laws::{
+    blank_images_keep_nothing, calls_are_judged, one_text_one_session,
+    runs_are_the_one_thread_services,
+};
 pub use order::Order;
 use outside::{StdSink, StdSource};
 use plan::Plan;

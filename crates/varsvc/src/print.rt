@@ -5,7 +5,7 @@ ghost use Rattle.outside.specs.Written.{AppendsPart};
 ghost use Rattle.report_text.specs.Flow.{PutsThrough, empty};
 ghost use Rattle.varsvc.specs.Outcome.{FailsAt};
 ghost use Rattle.varsvc.specs.declared.streamed.Streamed.TheVariants.{Listing, Report};
-ghost use Rattle.varsvc.specs.Plan.{ComesTo, Gains, IsOutcome, IsPrintable, report_status, text_of};
+ghost use Rattle.varsvc.specs.Plan.{ComesTo, Gains, IsOutcome, IsPrintable, lacks_in, report_status, text_of};
 ghost use Rattle.varsvc.specs.Runs.{lacks_any};
 
 use crate::content::Content;
@@ -50,14 +50,17 @@ fn lacks_any(answers: &Answers) -> bool
     answers.as_slice().iter().any(|a| a.lacks_memory())
 }
 
+// Whether some call of a session was out of memory.
+fn lacks_memory(session: &Session) -> bool
+    ensures { result ≡ lacks_in session.now }
+{
+    session.processors.iter().any(|answers| lacks_any(answers))
+}
+
 fn report_status(session: &Session) -> u8
     ensures { result ≡ report_status session.now }
 {
-    if session.processors.iter().any(|answers| lacks_any(answers)) {
-        8
-    } else {
-        0
-    }
+    if lacks_memory(session) { 8 } else { 0 }
 }
 
 // Puts the listing of a content's variables, and answers 0; where they take more memory than there is, the line that says so, and 8.

@@ -41,7 +41,7 @@ fn only_format_makes_a_file(rt: HostRuntime) -> Result<(), Fail> {
     let path = scratch_path(&rt, "made")?;
     for (verb, status, text) in [
         ("list", 7, "device fault\n"),
-        ("run", 0, "history 0\nprocessor 0 calls 0\nend\n"),
+        ("run", 7, "device fault\n"),
         ("frob", 2, "usage unknown-verb\n"),
     ] {
         let done = run(&rt, rt.alloc(), verb, path.as_str())?;
@@ -57,6 +57,11 @@ fn only_format_makes_a_file(rt: HostRuntime) -> Result<(), Fail> {
     assert!(rt; bytes.starts_with(FRONT.as_slice()));
     let done = run(&rt, rt.alloc(), "list", path.as_str())?;
     assert_eq!(rt; done.1.as_slice(), b"variables 0\nend\n".as_slice());
+    let done = run(&rt, rt.alloc(), "run", path.as_str())?;
+    assert_eq!(rt;
+        done.1.as_slice(),
+        b"history 0\nprocessor 0 calls 0\nend\n".as_slice()
+    );
     fs::remove_file(&rt, path.as_str())?;
     Ok(())
 }

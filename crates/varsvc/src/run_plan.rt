@@ -62,9 +62,11 @@ fn run_opened<F: Flash>(
 {
     let mut engine = engine;
     let mut desk = desk;
+    let _size = engine.non_volatile();
     let _opened = engine.trace();
     run_calls(alloc, &mut engine, calls, &mut desk);
     let _closed = engine.trace();
+    let _same_size = engine.non_volatile();
     let (image, entries) = engine.release();
     Planned {
         plan: Plan::Stream {

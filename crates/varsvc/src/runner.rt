@@ -42,12 +42,7 @@ fn step_call<F: Flash>(alloc: Global, engine: &mut Engine<F>, call: Call, desk: 
 }
 
 /// Answers calls in order; takes no memory but for the replies and for what the services keep of the changes.
-pub fn run_calls<F: Flash>(
-    alloc: Global,
-    engine: &mut Engine<F>,
-    calls: Vec<Call>,
-    desk: &mut Desk,
-)
+pub fn run_calls<F: Flash>(alloc: Global, engine: &mut Engine<F>, calls: Vec<Call>, desk: &mut Desk)
     requires empty { desk.old.answered ≡ [] }
     requires room { length calls.items ≤ desk.old.limit }
     requires few { desk.old.limit ≤ most_calls }

@@ -1,5 +1,5 @@
 use crate::varsvc;
-use flash_dev::{FaultPlan, MemFlash, Torn};
+use flash_dev::{FaultPlan, MemFlash, Torn, format_image};
 use outside::{MemSink, MemSource};
 use std::alloc::{AllocError, Global};
 use std::test::Fail;
@@ -27,6 +27,13 @@ fn flash_of(bytes: Vec<u8>, fails: Vec<u32>) -> MemFlash {
     MemFlash::new(bytes, plan)
 }
 
+/// The bytes of an image without variables.
+fn blank(alloc: Global) -> Result<Vec<u8>, AllocError> {
+    let mut flash = flash_of(vec![in alloc; 0xFFu8; 131_072]?, Vec::new(alloc));
+    let _ = format_image(&mut flash);
+    Ok(flash.release())
+}
+
 fn words_of(alloc: Global, words: &[&str]) -> Result<Vec<String>, AllocError> {
     let mut all = Vec::new(alloc);
     for word in words {
@@ -39,7 +46,7 @@ fn run(alloc: Global, case: &Case, room: usize) -> Result<(u8, Vec<u8>), AllocEr
     let words = words_of(alloc, case.words)?;
     let mut source = MemSource::new(case.script.to_vec(alloc)?, case.source_fails.to_vec(alloc)?);
     let mut sink = MemSink::new(vec![in alloc; 0u8; room]?, case.sink_fails.to_vec(alloc)?);
-    let image = flash_of(Vec::new(alloc), Vec::new(alloc));
+    let image = flash_of(blank(alloc)?, Vec::new(alloc));
     let done = varsvc(alloc, &words, &mut source, image, &mut sink);
     Ok((done.status, sink.bytes().to_vec(alloc)?))
 }
@@ -237,19 +244,5 @@ fn a_report_is_cut_at_a_failed_write(rt: HostRuntime) -> Result<(), Fail> {
         assert!(rt; whole.starts_with(&part));
         assert!(rt; least <= part.len(), "{}", part.len());
     }
-    Ok(())
-}
-
-#[test]
-fn a_run_hands_the_image_back(rt: HostRuntime) -> Result<(), Fail> {
-    let alloc = rt.alloc();
-    let words = words_of(alloc, &["run", "vars.fd"])?;
-    let mut source = MemSource::new(Vec::new(alloc), Vec::new(alloc));
-    let mut sink = MemSink::new(vec![in alloc; 0u8; ROOM]?, Vec::new(alloc));
-    let image = flash_of([1, 2, 3].to_vec(alloc)?, Vec::new(alloc));
-    let done = varsvc(alloc, &words, &mut source, image, &mut sink);
-    let after = done.image.expect(&rt, "the image is there");
-    assert_eq!(rt; after.bytes(), [1, 2, 3].as_slice());
-    assert_eq!(rt; after.calls(), 0);
     Ok(())
 }

@@ -1,35 +1,15 @@
-use Rattle.std.proofs.Common.{ℕ, List, ap, ◌∙◌, length-take, arith}
+use Rattle.std.proofs.Common.{◌≡◌, ℕ, List, IfOk, ap, subst}
 use Rattle.var_types.specs.declared.call.NextCall.{NextCall}
-use Rattle.var_types.specs.declared.key.Key.{Key}
-use Rattle.var_types.specs.declared.reply.NextReply.TheVariants as next
+use Rattle.var_types.specs.declared.reply.NextReply.{NextReply}
 use Rattle.var_types.specs.Next.{next_reply}
 use Rattle.var_types.specs.Stores.{state_in}
-use Rattle.svc_core.proofs.BufferAnswers.{next_end, next_fits, next_no_such, next_small}
 use Rattle.svc_core.proofs.look.next_in.Goals as goal
 
-pub slice_bounds-units_of-end : goal.slice_bounds-units_of-end
-slice_bounds-units_of-end c =
-    (next_fits c.args.buffer.now c.next.new.into _ c.in-Ok.guid c.in-Ok.units (c.in-Ok.ensures c.requires.apart)).0
+pub copied_next-requires-clause-answered : goal.copied_next-requires-clause-answered
+copied_next-requires-clause-answered c = (_, (c.args.buffer.now, c.next-answer.ensures c.requires.apart))
 
-pub slice_bounds-units_of-end-in-Ok : goal.slice_bounds-units_of-end-in-Ok
-slice_bounds-units_of-end-in-Ok c =
-    let fits = (next_fits c.args.buffer.now c.next.new.into _ c.in-Ok.guid c.in-Ok.units (c.in-Ok.ensures c.requires.apart)).0 in
-    omega (arith, fits, length-take c.in-Ok.units c.next.new.into)
-
-pub returns-in-NoSuch : goal.returns-in-NoSuch
-returns-in-NoSuch c =
-    next_no_such c.args.buffer.now c.next.new.into _ (c.in-NoSuch.ensures c.requires.apart) ∙ ap (λ (name : List ℕ). let call : NextCall = record c.args.call.now { name = name } in next_reply (state_in c.args.cache.now) call) c.as_slice.ensures.items
-
-pub returns-in-End : goal.returns-in-End
-returns-in-End c =
-    next_end c.args.buffer.now c.next.new.into _ (c.in-End.ensures c.requires.apart) ∙ ap (λ (name : List ℕ). let call : NextCall = record c.args.call.now { name = name } in next_reply (state_in c.args.cache.now) call) c.as_slice.ensures.items
-
-pub returns-in-TooSmall : goal.returns-in-TooSmall
-returns-in-TooSmall c =
-    next_small c.args.buffer.now c.next.new.into _ c.in-TooSmall.needed (c.in-TooSmall.ensures c.requires.apart) ∙ ap (λ (name : List ℕ). let call : NextCall = record c.args.call.now { name = name } in next_reply (state_in c.args.cache.now) call) c.as_slice.ensures.items
-
-pub returns-in_ok-name-in-Ok : goal.returns-in_ok-name-in-Ok
-returns-in_ok-name-in-Ok c =
-    ap (λ (name : List ℕ). next.Ok (let k : Key = record { guid = c.in-Ok.guid; name = name } in k)) c.in_ok-name-in-Ok.ensures
-    ∙ (next_fits c.args.buffer.now c.next.new.into _ c.in-Ok.guid c.in-Ok.units (c.in-Ok.ensures c.requires.apart)).1
-    ∙ ap (λ (name : List ℕ). let call : NextCall = record c.args.call.now { name = name } in next_reply (state_in c.args.cache.now) call) c.as_slice.ensures.items
+pub returns : goal.returns
+returns c =
+    subst (λ (reply : NextReply). IfOk c.copied_next.result (λ r. r ≡ reply))
+    (ap (λ (name : List ℕ). let call : NextCall = record c.args.call.now { name = name } in next_reply (state_in c.args.cache.now) call) c.as_slice.ensures.items)
+    (c.copied_next.ensures.reply _ (c.args.buffer.now, c.next-answer.ensures c.requires.apart))

@@ -19,6 +19,8 @@ row_untouched (Ok (order.Run name)) told same = same
 row_untouched (Ok (order.List name)) told same = tt
 row_untouched (Ok (order.Check name)) told same = tt
 row_untouched (Ok (order.Format name)) told same = tt
+row_untouched (Ok (order.Make number)) told same = tt
+row_untouched (Ok (order.Work number)) told same = tt
 row_untouched (Err fault) told same = tt
 
 module _ (asked : Result Order UsageFault) (told : Told) (same : LeavesUntouched told) (plan : Plan) where

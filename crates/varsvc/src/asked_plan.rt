@@ -11,9 +11,10 @@ ghost use Rattle.varsvc.specs.Told.{told_of};
 use crate::image_plan::{plan_format, plan_inspection};
 use crate::inspection::Inspection;
 use crate::order::Order;
-use crate::plan::plan_usage;
+use crate::plan::{Plan, plan_usage};
 use crate::planned::Planned;
 use crate::run_plan::plan_run;
+use crate::streamed::Streamed;
 use crate::words::read_words;
 use flash_dev::Flash;
 use outside::Source;
@@ -69,6 +70,12 @@ pub fn plan_asked<S: Source, F: Flash>(
         Ok(Order::List { .. }) => plan_inspected(alloc, Inspection::Listing, image),
         Ok(Order::Check { .. }) => plan_inspected(alloc, Inspection::Check, image),
         Ok(Order::Format { .. }) => plan_formatted(alloc, image),
+        Ok(Order::Make { number }) => Planned {
+            plan: Plan::Stream {
+                streamed: Streamed::Script { number },
+            },
+            image,
+        },
         Err(fault) => Planned {
             plan: plan_usage(alloc, fault),
             image,

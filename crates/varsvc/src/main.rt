@@ -36,6 +36,7 @@ mod verb;
 #[cfg(test)]
 mod word_tests;
 mod words;
+mod work_plan;
 
 pub use image_name::ImageName;
 pub use laws::{

@@ -44,8 +44,8 @@ fn print_text<K: Sink>(status: u8, text: &[u8], out: &mut K) -> u8
     }
 }
 
-// Whether some call of a processor was out of memory.
-fn lacks_any(answers: &Answers) -> bool
+/// Whether some call of a processor was out of memory.
+pub fn lacks_any(answers: &Answers) -> bool
     ensures { result ≡ lacks_any answers.now.answered }
 {
     answers.as_slice().iter().any(|a| a.lacks_memory())

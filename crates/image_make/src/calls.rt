@@ -1,8 +1,9 @@
 ghost use Rattle.std.specs.Prelude.{◌≡◌, ◌<◌, IfOk};
-ghost use Rattle.image_make.specs.Generated.{bytes_at, generated_call, get_at, name_at, next_from_front, set_at};
+ghost use Rattle.image_make.specs.Generated.{bytes_at, generated_call, generated_calls, get_at, name_at, next_from_front, set_at};
 
 use crate::parts::{
-    GET_ROOM, MOST_BYTES, NEXT_ROOM, SET_ATTRIBUTES, byte_at, count_at, global_variable, name_at,
+    GET_ROOM, MOST_BYTES, NEXT_ROOM, SCRIPT_CALLS, SET_ATTRIBUTES, byte_at, count_at,
+    global_variable, name_at,
 };
 use std::alloc::Global;
 use var_types::{Bytes, Call, GetCall, NextCall, OutOfMemory, SetCall, Units, Verdict};
@@ -69,4 +70,15 @@ pub fn generated_call(alloc: Global, number: u32, index: u32) -> Result<Call, Ou
         2 => get_at(alloc, number, index),
         _ => Ok(next_from_front(alloc)),
     }
+}
+
+/// The calls of the script of a number; want of memory is its only error.
+pub fn generated_calls(alloc: Global, number: u32) -> Result<Vec<Call>, OutOfMemory>
+    ensures { IfOk result (λ calls. calls.items ≡ generated_calls number) }
+{
+    let mut calls = Vec::with_capacity(alloc, SCRIPT_CALLS as usize)?;
+    for index in 0..SCRIPT_CALLS {
+        calls.push(generated_call(alloc, number, index)?)?;
+    }
+    Ok(calls)
 }

@@ -11,7 +11,7 @@ mod sure_flash;
 mod tests;
 
 pub use blank::{blank_flash, blank_image};
-pub use calls::generated_call;
+pub use calls::{generated_call, generated_calls};
 pub use laws::{generated_scripts_are_read, numbers_modulo_256};
 pub use parts::SCRIPT_CALLS;
 pub use script::make_script;

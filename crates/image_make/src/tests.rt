@@ -125,6 +125,7 @@ fn the_blank_image_has_its_headers(rt: HostRuntime) -> Result<(), Fail> {
 #[test]
 fn a_sure_flash_keeps_what_is_done(rt: HostRuntime) -> Result<(), Fail> {
     let mut flash = blank_flash(rt.alloc())?;
+    assert_eq!(rt; flash.len(), 131_072);
     flash.program(8_190, &[0x5a, 0xa5, 0x00])?;
     flash.program(8_190, &[0xf0, 0xff, 0xff])?;
     let mut piece = [0; 4];

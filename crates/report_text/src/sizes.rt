@@ -1,5 +1,5 @@
 //! How many variables a region has, and how many bytes these have.
-ghost use Rattle.std.specs.Prelude.{◌≡◌, ◌<◌, ◌^◌, IfOk, map};
+ghost use Rattle.std.specs.Prelude.{◌≡◌, ◌<◌, ◌≤◌, ◌^◌, IfOk, map};
 ghost use Rattle.var_types.specs.Region.{region_map};
 ghost use Rattle.report_text.specs.Held.{entry_of};
 ghost use Rattle.report_text.specs.Sizes.{data_bytes, sizes_of};
@@ -31,7 +31,8 @@ fn held_bytes(held: &BTreeMap<Key, Found>) -> u64
 
 /// The sizes of a region's variables; `Err` where these take more memory than there is.
 pub fn variable_sizes(alloc: Global, region: &Region) -> Result<Sizes, OutOfMemory>
-    ensures { IfOk result (λ sizes. sizes ≡ sizes_of (region_map region.now)) }
+    ensures sizes { IfOk result (λ sizes. sizes ≡ sizes_of (region_map region.now)) }
+    ensures small { IfOk result (λ sizes. (sizes.variables ≤ 131078) × (sizes.bytes ≤ 131078)) }
 {
     let held = variables_of(alloc, region)?;
     Ok(Sizes {

@@ -10,8 +10,8 @@ use Rattle.clap.proofs.OnLiterals.{clap_on_literals}
 use Rattle.script_text.proofs.LineLemmas.{missing as missing_place}
 use Rattle.varsvc.specs.declared.verb.Verb.{Verb}
 use Rattle.varsvc.specs.declared.verb.Verb.TheVariants as verb
-use Rattle.varsvc.specs.Cli.{cli, image_in, refusal_of, verb_word}
-use Rattle.varsvc.specs.Order.{IsUsage, image_order, is_dashed}
+use Rattle.varsvc.specs.Cli.{cli, operand_in, operand_word, refusal_of, verb_word}
+use Rattle.varsvc.specs.Order.{IsUsage, is_dashed, operand_order}
 
 pub cli_is_simple : is_simple cli ≡ true
 cli_is_simple = refl
@@ -26,6 +26,8 @@ missing verb.Run = refl
 missing verb.List = refl
 missing verb.Check = refl
 missing verb.Format = refl
+missing verb.Make = refl
+missing verb.Work = refl
 
 -- a verb and a word
 accepted : (v : Verb) (a : List ℕ) → is_dashed a ≡ false → fault_of cli (verb_word v ∷ a ∷ []) ≡ []
@@ -38,17 +40,25 @@ accepted verb.Check [] plain = refl
 accepted verb.Check (c ∷ cs) plain = rw plain (rw plain refl)
 accepted verb.Format [] plain = refl
 accepted verb.Format (c ∷ cs) plain = rw plain (rw plain refl)
+accepted verb.Make [] plain = refl
+accepted verb.Make (c ∷ cs) plain = rw plain (rw plain refl)
+accepted verb.Work [] plain = refl
+accepted verb.Work (c ∷ cs) plain = rw plain (rw plain refl)
 
-image : (v : Verb) (a : List ℕ) → is_dashed a ≡ false → image_in (subcommand_of cli (verb_word v ∷ a ∷ [])) ≡ Some a
+operand : (v : Verb) (a : List ℕ) → is_dashed a ≡ false → operand_in (operand_word v) (subcommand_of cli (verb_word v ∷ a ∷ [])) ≡ Some a
 unfolding clap_on_literals
-image verb.Run [] plain = refl
-image verb.Run (c ∷ cs) plain = rw plain (rw plain refl)
-image verb.List [] plain = refl
-image verb.List (c ∷ cs) plain = rw plain (rw plain refl)
-image verb.Check [] plain = refl
-image verb.Check (c ∷ cs) plain = rw plain (rw plain refl)
-image verb.Format [] plain = refl
-image verb.Format (c ∷ cs) plain = rw plain (rw plain refl)
+operand verb.Run [] plain = refl
+operand verb.Run (c ∷ cs) plain = rw plain (rw plain refl)
+operand verb.List [] plain = refl
+operand verb.List (c ∷ cs) plain = rw plain (rw plain refl)
+operand verb.Check [] plain = refl
+operand verb.Check (c ∷ cs) plain = rw plain (rw plain refl)
+operand verb.Format [] plain = refl
+operand verb.Format (c ∷ cs) plain = rw plain (rw plain refl)
+operand verb.Make [] plain = refl
+operand verb.Make (c ∷ cs) plain = rw plain (rw plain refl)
+operand verb.Work [] plain = refl
+operand verb.Work (c ∷ cs) plain = rw plain (rw plain refl)
 
 -- a verb and two words
 extra : (v : Verb) (a b : List ℕ) → is_dashed a ≡ false → is_dashed b ≡ false → fault_of cli (verb_word v ∷ a ∷ b ∷ []) ≡ kind.UnknownArgument ∷ []
@@ -69,6 +79,14 @@ extra verb.Format [] [] plain also = refl
 extra verb.Format [] (d ∷ ds) plain also = rw also (rw also refl)
 extra verb.Format (c ∷ cs) [] plain also = rw plain (rw plain refl)
 extra verb.Format (c ∷ cs) (d ∷ ds) plain also = rw plain (rw plain (rw also (rw also refl)))
+extra verb.Make [] [] plain also = refl
+extra verb.Make [] (d ∷ ds) plain also = rw also (rw also refl)
+extra verb.Make (c ∷ cs) [] plain also = rw plain (rw plain refl)
+extra verb.Make (c ∷ cs) (d ∷ ds) plain also = rw plain (rw plain (rw also (rw also refl)))
+extra verb.Work [] [] plain also = refl
+extra verb.Work [] (d ∷ ds) plain also = rw also (rw also refl)
+extra verb.Work (c ∷ cs) [] plain also = rw plain (rw plain refl)
+extra verb.Work (c ∷ cs) (d ∷ ds) plain also = rw plain (rw plain (rw also (rw also refl)))
 
 -- where no word is dashed, the first is not, nor is one of the others
 undashed : (a : List ℕ) (rest : List (List ℕ)) → position is_dashed (a ∷ rest) ≡ None → (is_dashed a ≡ false) × (position is_dashed rest ≡ None)
@@ -87,9 +105,9 @@ undashed a rest none =
 
 -- a parse that succeeds found one word behind the verb
 pub parsed_one : (v : Verb) (rest : List (List ℕ)) → position is_dashed rest ≡ None → fault_of cli (take 3 (verb_word v ∷ rest)) ≡ []
-    → (a : List ℕ) × (rest ≡ a ∷ []) × (image_in (subcommand_of cli (take 3 (verb_word v ∷ rest))) ≡ Some a)
+    → (a : List ℕ) × (rest ≡ a ∷ []) × (operand_in (operand_word v) (subcommand_of cli (take 3 (verb_word v ∷ rest))) ≡ Some a)
 parsed_one v [] none h = let other : kind.MissingRequiredArgument ∷ [] ≡ [] = sym (missing v) ∙ h in cc
-parsed_one v (a ∷ []) none h = (a, refl, image v a (undashed a [] none).0)
+parsed_one v (a ∷ []) none h = (a, refl, operand v a (undashed a [] none).0)
 parsed_one v (a ∷ b ∷ rest) none h =
     let first = undashed a (b ∷ rest) none in
     let other : kind.UnknownArgument ∷ [] ≡ [] = sym (extra v a b first.0 (undashed b rest first.1).0) ∙ h in cc
@@ -100,11 +118,11 @@ among k found (inl is) = is
 among k found (inr other) = absurd other
 
 pub parsed_none : (v : Verb) (rest : List (List ℕ)) (k : ErrorKind) → position is_dashed rest ≡ None
-    → IsAmong k (fault_of cli (take 3 (verb_word v ∷ rest))) → IsUsage (refusal_of k) (image_order v rest)
+    → IsAmong k (fault_of cli (take 3 (verb_word v ∷ rest))) → IsUsage (refusal_of k) (operand_order v rest)
 parsed_none v [] k none h =
-    subst (λ (e : ErrorKind). IsUsage (refusal_of e) (image_order v [])) (sym (among k _ (subst (λ (ks : Kinds). IsAmong k ks) (missing v) h))) refl
+    subst (λ (e : ErrorKind). IsUsage (refusal_of e) (operand_order v [])) (sym (among k _ (subst (λ (ks : Kinds). IsAmong k ks) (missing v) h))) refl
 parsed_none v (a ∷ []) k none h = absurd (subst (λ (ks : Kinds). IsAmong k ks) (accepted v a (undashed a [] none).0) h)
 parsed_none v (a ∷ b ∷ rest) k none h =
     let first = undashed a (b ∷ rest) none in
-    subst (λ (e : ErrorKind). IsUsage (refusal_of e) (image_order v (a ∷ b ∷ rest)))
+    subst (λ (e : ErrorKind). IsUsage (refusal_of e) (operand_order v (a ∷ b ∷ rest)))
     (sym (among k _ (subst (λ (ks : Kinds). IsAmong k ks) (extra v a b first.0 (undashed b rest first.1).0) h))) refl

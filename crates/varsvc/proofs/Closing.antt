@@ -45,7 +45,7 @@ accepted_image image is = by (content_geometry image) (is_blank (spare image)) (
     by (Ok geometry) false (Pending slot) is = (refl, λ h. let e = h.1 in cc)
 
 -- a session of no call is legal
-no_call : (first : State) → IsLegalSession first [] ([] ∷ [])
+pub no_call : (first : State) → IsLegalSession first [] ([] ∷ [])
 no_call first = record {
   right = (tt, tt);
   ordered = All-cons (AreOrderedFrom 0) [] [] tt (All-nil (AreOrderedFrom 0));
@@ -54,7 +54,7 @@ no_call first = record {
 }
 
 -- the state of a side without changes is that from which it opened
-state_first : (side : Side) → side.log ≡ [] → state_of side ≡ first_state side
+pub state_first : (side : Side) → side.log ≡ [] → state_of side ≡ first_state side
 unfolding state_of
 state_first side empty = ap (λ (log : List Change). run (first_state side) (history_in log)) empty
 

@@ -11,7 +11,7 @@ use Rattle.varsvc.specs.declared.order.Order.{Order}
 use Rattle.varsvc.specs.declared.order.Order.TheVariants as order
 use Rattle.varsvc.specs.declared.usage.UsageFault.{UsageFault}
 use Rattle.varsvc.specs.Images.{Inspects, IsImage, IsNoImage, RefusesList}
-use Rattle.varsvc.specs.Outcome.{Counts, IsCalm, Prints, Row, format_row, inspection_row, row, run_row, usage_row}
+use Rattle.varsvc.specs.Outcome.{Counts, IsCalm, Prints, Row, format_row, text_row, inspection_row, text_row, row, text_row, run_row, text_row, usage_row}
 use Rattle.varsvc.specs.Runs.{IsNoScript, IsScript, RefusesScript, Reports}
 use Rattle.varsvc.specs.Told.{Told}
 
@@ -121,6 +121,12 @@ verdict_format size status j = (
       (⊎_elim (λ h. absurd h.1) (⊎_elim (λ h. absurd h.1) (⊎_elim (λ h. inl (h.0 ∙ sym is.0)) inr))) j.ended,
 )
 
+verdict_text : (wanted : List ℕ) (status : ℕ) → IsJudged (text_row wanted) status → IsVerdict (text_row wanted) status
+verdict_text wanted status j = (
+  λ is. ⊎_elim (λ h. inl h.0) (⊎_elim (λ h. absurd h.1) (⊎_elim (λ h. absurd h.1) (⊎_elim (λ h. absurd h.1) inr))) j.ended,
+  λ refusal is. absurd is,
+)
+
 verdict_usage : (fault : UsageFault) (status : ℕ) → IsJudged (usage_row fault) status → IsVerdict (usage_row fault) status
 verdict_usage fault status j = (
   λ is. absurd is,
@@ -137,4 +143,6 @@ all_judged (Ok (order.List name)) told counts status old new printed calm =
 all_judged (Ok (order.Check name)) told counts status old new printed calm =
     verdict_inspection inspection.Check told.image told.size status (judged _ counts status old new printed calm)
 all_judged (Ok (order.Format name)) told counts status old new printed calm = verdict_format told.size status (judged _ counts status old new printed calm)
+all_judged (Ok (order.Make number)) told counts status old new printed calm = verdict_text _ status (judged _ counts status old new printed calm)
+all_judged (Ok (order.Work number)) told counts status old new printed calm = verdict_text _ status (judged _ counts status old new printed calm)
 all_judged (Err fault) told counts status old new printed calm = verdict_usage fault status (judged _ counts status old new printed calm)

@@ -15,3 +15,4 @@ pub mod OneProcessor
 pub mod BlankImages
 pub mod Streams
 pub mod Cli
+pub mod Worked

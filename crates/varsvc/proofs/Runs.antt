@@ -122,6 +122,7 @@ module _ (fit : RightRepliesFit) (told : Told) (calls : List Call) (script : IfS
   run_text (Print s t) (is, refused, untouched) values = subst (λ (n : ℕ). IsText (run_row told) n t) (sym is) (text_image (run_row told) t (accepted told.input script, refused) untouched)
   run_text (Stream (streamed.Report session)) run values = session_is_text session run values
   run_text (Stream (streamed.Listing content)) planned values = absurd planned
+  run_text (Stream (streamed.Script number)) planned values = absurd planned
   run_text InputFault planned values = absurd planned
   run_text DeviceFault (left, rose) values = text_device (run_row told) refl left
   run_text NoMemory untouched values = text_memory (run_row told) untouched
@@ -131,6 +132,7 @@ module _ (fit : RightRepliesFit) (told : Told) (calls : List Call) (script : IfS
   run_unprinted (Print s t) planned (streamed, is) = cc
   run_unprinted (Stream (streamed.Report session)) run is = (run.answered, was_run session run)
   run_unprinted (Stream (streamed.Listing content)) planned is = absurd planned
+  run_unprinted (Stream (streamed.Script number)) planned is = absurd planned
   run_unprinted InputFault planned is = absurd planned
   run_unprinted DeviceFault planned (streamed, is) = cc
   run_unprinted NoMemory planned (streamed, is) = cc
@@ -146,6 +148,7 @@ run_status told calls (Print s t) (is, refuses, untouched) = λ e. omega (arith,
 run_status told calls (Stream (streamed.Report session)) planned =
     other_than (report_status session) 6 (lacks_in session) refl (λ e. omega (arith, e)) (λ e. omega (arith, e))
 run_status told calls (Stream (streamed.Listing content)) planned = absurd planned
+run_status told calls (Stream (streamed.Script number)) planned = absurd planned
 run_status told calls InputFault planned = absurd planned
 run_status told calls DeviceFault planned = λ e. omega (arith, e)
 run_status told calls NoMemory planned = λ e. omega (arith, e)
@@ -160,6 +163,7 @@ run_fails told calls plan planned = record { rose = rose plan planned; stands = 
     rose (Stream (streamed.Report session)) planned e =
         absurd (other_than (report_status session) 7 (lacks_in session) refl (λ e. omega (arith, e)) (λ e. omega (arith, e)) e)
     rose (Stream (streamed.Listing content)) planned e = absurd planned
+    rose (Stream (streamed.Script number)) planned e = absurd planned
     rose InputFault planned e = absurd planned
     rose DeviceFault planned e = planned.1
     rose NoMemory planned e = absurd (omega (arith, e))

@@ -6,6 +6,7 @@ use Rattle.report_text.specs.declared.word.Word.TheVariants as word
 use Rattle.report_text.specs.Listing.{listing_text, variable_line}
 use Rattle.report_text.specs.Word.{word_text}
 use Rattle.report_text.proofs.Puts.{puts_part, puts_whole}
+use Rattle.image_make.proofs.Scripts.{script_has_bytes}
 use Rattle.var_trace.specs.Session.{answers_of}
 use Rattle.var_trace.specs.StoresAfter.{history_in}
 use Rattle.var_types.specs.declared.answered.Answered.{Answered}
@@ -18,7 +19,7 @@ use Rattle.varsvc.specs.declared.order.Order.TheVariants as order
 use Rattle.varsvc.specs.declared.plan.Plan.{Plan}
 use Rattle.varsvc.specs.declared.plan.Plan.TheVariants.{Print, Stream, InputFault, DeviceFault, NoMemory}
 use Rattle.varsvc.specs.declared.streamed.Streamed.{Streamed}
-use Rattle.varsvc.specs.declared.streamed.Streamed.TheVariants.{Listing, Report}
+use Rattle.varsvc.specs.declared.streamed.Streamed.TheVariants.{Listing, Report, Script}
 use Rattle.varsvc.specs.declared.usage.UsageFault.{UsageFault}
 use Rattle.varsvc.specs.FaultLines.{memory_line}
 use Rattle.varsvc.specs.Outcome.{Counts, FailsAt, FlashFails, IsPlanned, IsText, LeavesImage, Prints, ReadsInput, Row, row}
@@ -35,6 +36,7 @@ two_statuses false n e = inl e
 streamed_statuses : (s : Streamed) → (streamed_status s ≡ 0) ⊎ (streamed_status s ≡ 8)
 streamed_statuses (Report session) = two_statuses (lacks_in session) (report_status session) refl
 streamed_statuses (Listing content) = inl refl
+streamed_statuses (Script number) = inl refl
 
 other_than : (fault status : ℕ) → fault ≢ 0 → fault ≢ 8 → (status ≡ 0) ⊎ (status ≡ 8) → status ≢ fault
 other_than fault status none memory (inl e) = λ is. none (sym is ∙ e)
@@ -105,6 +107,7 @@ listing_has_bytes variables e =
 pub streamed_has_bytes : (s : Streamed) → streamed_text s ≢ []
 streamed_has_bytes (Report session) e = report_has_bytes (history_in session.entries.log) (answers_of session) e
 streamed_has_bytes (Listing content) e = listing_has_bytes _ e
+streamed_has_bytes (Script number) e = script_has_bytes number e
 
 -- a plan of words, script or image whose text is known is printable
 pub printable : (r : Row) (plan : Plan) → (HasPlanValues plan → IsText r (status_of plan) (text_of plan)) → IsPrintable plan
@@ -233,6 +236,8 @@ silent (Ok (order.Run name)) told text none out = cc
 silent (Ok (order.List name)) told text none out = cc
 silent (Ok (order.Check name)) told text none out = cc
 silent (Ok (order.Format name)) told text none out = out.1
+silent (Ok (order.Make number)) told text none out = cc
+silent (Ok (order.Work number)) told text none out = cc
 silent (Err fault) told text none out = cc
 
 outcome_silent : (plan : Plan) (text : List ℕ) → IsOutcome plan 0 text → text ≡ [] → text_of plan ≡ []

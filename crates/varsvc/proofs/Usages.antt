@@ -19,6 +19,8 @@ row_untouched (Ok (order.Run name)) told same = same
 row_untouched (Ok (order.List name)) told same = tt
 row_untouched (Ok (order.Check name)) told same = tt
 row_untouched (Ok (order.Format name)) told same = tt
+row_untouched (Ok (order.Make number)) told same = tt
+row_untouched (Ok (order.Work number)) told same = tt
 row_untouched (Err fault) told same = tt
 
 module _ (asked : Result Order UsageFault) (told : Told) (same : LeavesUntouched told) (plan : Plan) where
@@ -38,3 +40,4 @@ module _ (asked : Result Order UsageFault) (told : Told) (same : LeavesUntouched
   usage_text (usage.Dash at) is memory text = usage_of (usage.Dash at) is text
   usage_text (usage.Missing want have) is memory text = usage_of (usage.Missing want have) is text
   usage_text (usage.Extra at) is memory text = usage_of (usage.Extra at) is text
+  usage_text usage.Number is memory text = usage_of usage.Number is text

@@ -1,5 +1,5 @@
--- The command line as the kit's crate `clap` reads it: a verb is a subcommand, and the image its one positional argument.
-use Rattle.std.specs.Prelude.{◌==◌, ℕ, true, List, codes, nat_lt, if◌then◌else◌, Option, option_and_then}
+-- The command line as the kit's crate `clap` reads it: a verb is a subcommand, and an image or a number its one positional argument.
+use Rattle.std.specs.Prelude.{ℕ, true, List, codes, Option, option_and_then}
 use Rattle.clap.specs.Words.{App, Row, Rule, Text, first_of, new_app, new_rule, with_rule, with_subcommand}
 use Rattle.clap.specs.declared.error.kind.ErrorKind.{ErrorKind}
 use Rattle.clap.specs.declared.error.kind.ErrorKind.TheVariants as kind
@@ -8,12 +8,12 @@ use Rattle.varsvc.specs.declared.usage.UsageFault.TheVariants as usage
 use Rattle.varsvc.specs.declared.verb.Verb.{Verb}
 use Rattle.varsvc.specs.declared.verb.Verb.TheVariants as verb
 
--- the image of a verb, and a verb with its image
-abbrev pub image_rule : Rule
-image_rule = record (new_rule (codes "image")) { required = true }
+-- the word behind a verb by its name, and a verb with it
+abbrev pub operand_rule : Text → Rule
+operand_rule operand = record (new_rule operand) { required = true }
 
-abbrev pub image_app : Text → App
-image_app name = with_rule (new_app name) image_rule
+abbrev pub operand_app : Text → Text → App
+operand_app name operand = with_rule (new_app name) (operand_rule operand)
 
 -- the program without verbs, which has no flags of its own
 abbrev pub bare : App
@@ -30,12 +30,27 @@ bare = record (new_app (codes "varsvc")) {
 abbrev pub cli : App
 cli =
     with_subcommand
-    (with_subcommand (with_subcommand (with_subcommand bare (image_app (codes "run")).top) (image_app (codes "list")).top) (image_app (codes "check")).top)
-    (image_app (codes "format")).top
+    (with_subcommand
+    (with_subcommand
+    (with_subcommand
+    (with_subcommand (with_subcommand bare (operand_app (codes "run") (codes "image")).top) (operand_app (codes "list") (codes "image")).top)
+    (operand_app (codes "check") (codes "image")).top)
+    (operand_app (codes "format") (codes "image")).top)
+    (operand_app (codes "make") (codes "number")).top)
+    (operand_app (codes "work") (codes "number")).top
 
--- the image in what was read of a verb
-abbrev pub image_in : Option (Text × List Row) → Option Text
-image_in found = option_and_then (λ p. first_of (codes "image") p.1) found
+-- the word of this name in what was read of a verb
+abbrev pub operand_in : Text → Option (Text × List Row) → Option Text
+operand_in name found = option_and_then (λ p. first_of name p.1) found
+
+-- what the word behind a verb is called
+abbrev pub operand_word : Verb → List ℕ
+operand_word verb.Run = codes "image"
+operand_word verb.List = codes "image"
+operand_word verb.Check = codes "image"
+operand_word verb.Format = codes "image"
+operand_word verb.Make = codes "number"
+operand_word verb.Work = codes "number"
 
 -- the word of a verb
 abbrev pub verb_word : Verb → List ℕ
@@ -43,15 +58,10 @@ verb_word verb.Run = codes "run"
 verb_word verb.List = codes "list"
 verb_word verb.Check = codes "check"
 verb_word verb.Format = codes "format"
+verb_word verb.Make = codes "make"
+verb_word verb.Work = codes "work"
 
 -- the refusal by the kind of an error
 abbrev pub refusal_of : ErrorKind → UsageFault
 refusal_of kind.MissingRequiredArgument = usage.Missing 1 0
 refusal_of _ = usage.Extra 2
-
--- the same by the number of words, where there is no memory to parse them
-abbrev pub refusal_by_number : ℕ → UsageFault
-refusal_by_number count =
-    if nat_lt count 2 then usage.Missing 1 0
-    else if count == 2 then usage.OutOfMemory
-    else usage.Extra 2

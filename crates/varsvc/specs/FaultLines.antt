@@ -44,6 +44,7 @@ usage_line usage.UnknownVerb = line_text (word_text word.Usage ∷ word_text wor
 usage_line (usage.Dash at) = line_text (word_text word.Usage ∷ word_text word.Dash ∷ decimal at ∷ [])
 usage_line (usage.Missing want have) = line_text (word_text word.Usage ∷ word_text word.Missing ∷ decimal want ∷ decimal have ∷ [])
 usage_line (usage.Extra at) = line_text (word_text word.Usage ∷ word_text word.Extra ∷ decimal at ∷ [])
+usage_line usage.Number = line_text (word_text word.Usage ∷ word_text word.Number ∷ [])
 usage_line usage.OutOfMemory = memory_line
 
 -- the word of a line's reason

@@ -11,3 +11,4 @@ pub mod Opened
 pub mod RunPlan
 pub mod Running
 pub mod Work
+pub mod Number

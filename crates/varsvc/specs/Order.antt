@@ -6,6 +6,7 @@ use Rattle.varsvc.specs.declared.usage.UsageFault.{UsageFault}
 use Rattle.varsvc.specs.declared.usage.UsageFault.TheVariants as usage
 use Rattle.varsvc.specs.declared.verb.Verb.{Verb}
 use Rattle.varsvc.specs.declared.verb.Verb.TheVariants as verb
+use Rattle.varsvc.specs.Number.{number_of}
 use lib.Pointwise.{pointwise}
 
 -- whether a word begins with a dash
@@ -20,31 +21,50 @@ verb_of word =
     else if pointwise ◌==◌ word (codes "list") then Some verb.List
     else if pointwise ◌==◌ word (codes "check") then Some verb.Check
     else if pointwise ◌==◌ word (codes "format") then Some verb.Format
+    else if pointwise ◌==◌ word (codes "make") then Some verb.Make
+    else if pointwise ◌==◌ word (codes "work") then Some verb.Work
     else None
 
--- the order of a verb with its image
-abbrev pub order_with : Verb → List ℕ → Order
-order_with verb.Run image = order.Run image
-order_with verb.List image = order.List image
-order_with verb.Check image = order.Check image
-order_with verb.Format image = order.Format image
+-- the number that is wanted, or that none was read (this project's own)
+abbrev pub number_read : Option ℕ → Result ℕ UsageFault
+number_read None = Err usage.Number
+number_read (Some number) = Ok number
 
--- the image that an order is about
-abbrev pub image_of : Order → List ℕ
-image_of (order.Run image) = image
-image_of (order.List image) = image
-image_of (order.Check image) = image
-image_of (order.Format image) = image
+abbrev pub wanted_number : List ℕ → Result ℕ UsageFault
+wanted_number word = number_read (number_of word)
 
--- the words behind a verb: the image alone
-abbrev pub image_order : Verb → List (List ℕ) → Result Order UsageFault
-image_order verb [] = Err (usage.Missing 1 0)
-image_order verb (image ∷ []) = Ok (order_with verb image)
-image_order verb (image ∷ extra ∷ more) = Err (usage.Extra 2)
+-- an order by the number that is wanted
+abbrev pub numbered : (ℕ → Order) → Result ℕ UsageFault → Result Order UsageFault
+numbered order (Ok number) = Ok (order number)
+numbered order (Err fault) = Err fault
+
+-- the order of a verb with the word behind it: an image, or a number (this project's own)
+abbrev pub order_with : Verb → List ℕ → Result Order UsageFault
+order_with verb.Run image = Ok (order.Run image)
+order_with verb.List image = Ok (order.List image)
+order_with verb.Check image = Ok (order.Check image)
+order_with verb.Format image = Ok (order.Format image)
+order_with verb.Make number = numbered order.Make (wanted_number number)
+order_with verb.Work number = numbered order.Work (wanted_number number)
+
+-- the image that an order is about, if it is about one
+abbrev pub image_of : Order → Option (List ℕ)
+image_of (order.Run image) = Some image
+image_of (order.List image) = Some image
+image_of (order.Check image) = Some image
+image_of (order.Format image) = Some image
+image_of (order.Make number) = None
+image_of (order.Work number) = None
+
+-- the words behind a verb: one alone
+abbrev pub operand_order : Verb → List (List ℕ) → Result Order UsageFault
+operand_order verb [] = Err (usage.Missing 1 0)
+operand_order verb (word ∷ []) = order_with verb word
+operand_order verb (word ∷ extra ∷ more) = Err (usage.Extra 2)
 
 -- the words behind a verb, the first of which with a dash is at this place
 abbrev pub dashed_order : Verb → List (List ℕ) → Option ℕ → Result Order UsageFault
-dashed_order verb words None = image_order verb words
+dashed_order verb words None = operand_order verb words
 dashed_order verb words (Some at) = Err (usage.Dash (at + 1))
 
 -- the words behind a verb, of which none may begin with a dash
@@ -57,7 +77,7 @@ first_order None words = Err usage.UnknownVerb
 first_order (Some verb) words = verb_order verb words
 
 -- what the words of the command line ask for, or the first refusal: no verb, an unknown verb, a later word that begins with a dash, too
--- few words, too many (this project's own)
+-- few words, too many, a word that is no number where one is wanted (this project's own)
 unfoldable pub order_of : List (List ℕ) → Result Order UsageFault
 order_of [] = Err usage.NoVerb
 order_of (verb ∷ words) = first_order (verb_of verb) words
@@ -70,6 +90,7 @@ IsUsage usage.UnknownVerb read = read ≡ Err usage.UnknownVerb
 IsUsage (usage.Dash at) read = read ≡ Err (usage.Dash at)
 IsUsage (usage.Missing want have) read = read ≡ Err (usage.Missing want have)
 IsUsage (usage.Extra at) read = read ≡ Err (usage.Extra at)
+IsUsage usage.Number read = read ≡ Err usage.Number
 
 -- what was returned is what the words ask for, but out of memory
 abbrev pub GivesOrder : Result Order UsageFault → Result Order UsageFault → Type 0

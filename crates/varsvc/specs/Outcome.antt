@@ -5,8 +5,10 @@ use Rattle.flash_dev.specs.Blank.{blank_image}
 use Rattle.flash_dev.specs.Formatting.{IsFormatLeft}
 use Rattle.flash_dev.specs.Moments.{Stays}
 use Rattle.flash_dev.specs.Rules.{IsKept, Leaves}
+use Rattle.image_make.specs.Generated.{generated_script}
 use Rattle.outside.specs.Faults.{HasRisen}
 use Rattle.outside.specs.Written.{AppendsPart}
+use Rattle.report_text.specs.Summary.{summary_line}
 use Rattle.script_text.specs.Script.{script_of}
 use Rattle.var_types.specs.Layout.{image_size}
 use Rattle.varsvc.specs.declared.inspection.Inspection.{Inspection}
@@ -20,6 +22,7 @@ use Rattle.varsvc.specs.Images.{Formats, Inspects, IsImage, IsNoImage, RefusesFo
 use Rattle.varsvc.specs.Order.{IsRunOrder}
 use Rattle.varsvc.specs.Runs.{IsNoScript, IsScript, LeavesUntouched, LeavesVariables, RefusesScript, Reports, Runs}
 use Rattle.varsvc.specs.Told.{Told, told_of}
+use Rattle.varsvc.specs.Work.{work_summary}
 
 -- no text
 abbrev pub NoText : List ℕ → Type 0
@@ -114,6 +117,27 @@ format_row size = record {
   refused = λ status. (status ≡ 4) × (size ≢ image_size);
 }
 
+-- printing a text, whatever the source and the image are
+abbrev pub text_row : List ℕ → Row
+text_row wanted = record {
+  output = λ text. text ≡ wanted;
+  usage = NoText;
+  script = NoText;
+  image = NoText;
+  lacking = NoText;
+  untouched = Unit {0};
+  unopened = Unit {0};
+  unprinted = Unit {0};
+  reads = false;
+  opens = false;
+  prints = true;
+  replies = false;
+  done = IsKept;
+  leaves = IsKept;
+  accepted = Unit {0};
+  refused = λ _. ⊥;
+}
+
 -- words that are refused
 abbrev pub usage_row : UsageFault → Row
 usage_row fault = record {
@@ -141,6 +165,8 @@ row (Ok (order.Run name)) told = run_row told
 row (Ok (order.List name)) told = inspection_row inspection.Listing told.image told.size
 row (Ok (order.Check name)) told = inspection_row inspection.Check told.image told.size
 row (Ok (order.Format name)) told = format_row told.size
+row (Ok (order.Make number)) told = text_row (generated_script number)
+row (Ok (order.Work number)) told = text_row (summary_line (work_summary number))
 row (Err fault) told = usage_row fault
 
 -- a call that is out of memory: nothing was done, and the line says so; or all was done, and there is no memory to print it; or replies are out

@@ -4,6 +4,7 @@ use Rattle.std.specs.List.{list_any}
 use Rattle.std.specs.Io.KnownBytes.{Appends}
 use Rattle.flash_dev.specs.declared.image_fault.ImageFault.{ImageFault}
 use Rattle.flash_dev.specs.declared.image_fault.ImageFault.TheVariants as image
+use Rattle.image_make.specs.Generated.{generated_script}
 use Rattle.outside.specs.Written.{AppendsPart}
 use Rattle.ftw_mount.specs.declared.kept.Kept.{Kept}
 use Rattle.report_text.specs.Check.{check_text, facts_of}
@@ -49,14 +50,17 @@ report_status session = if lacks_in session then 8 else 0
 abbrev pub streamed_status : Streamed → ℕ
 streamed_status (streamed.Report session) = report_status session
 streamed_status (streamed.Listing content) = 0
+streamed_status (streamed.Script number) = 0
 
 abbrev pub streamed_text : Streamed → List ℕ
 streamed_text (streamed.Report session) = session_text (history_in session.entries.log) (answers_of session)
 streamed_text (streamed.Listing content) = volume_listing content
+streamed_text (streamed.Script number) = generated_script number
 
 abbrev pub HasStreamedValues : Streamed → Type 0
 HasStreamedValues (streamed.Report session) = HaveValues (answers_of session)
 HasStreamedValues (streamed.Listing content) = Unit {0}
+HasStreamedValues (streamed.Script number) = Unit {0}
 
 -- the status of a plan, the text that it prints, and that its parts are values of their types
 abbrev pub status_of : Plan → ℕ

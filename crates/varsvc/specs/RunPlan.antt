@@ -37,6 +37,7 @@ pub record IsRunOf (told : Told) (calls : List Call) (session : SessionParts) : 
 abbrev pub StreamsRun : Told → List Call → Streamed → Type 0
 StreamsRun told calls (streamed.Report session) = IsRunOf told calls session
 StreamsRun told calls (streamed.Listing content) = ⊥
+StreamsRun told calls (streamed.Script number) = ⊥
 
 -- the plan streams it; or the image is refused; or a call of the flash failed, or memory is wanting, before there is a session
 abbrev pub PlansRun : Told → List Call → Plan → Type 0

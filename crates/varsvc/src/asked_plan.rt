@@ -3,18 +3,23 @@ ghost use Rattle.std.specs.Prelude.{◌≡◌, ◌⊎◌, false};
 ghost use Rattle.flash_dev.specs.Formatting.{IsFormatLeft};
 ghost use Rattle.flash_dev.specs.Moments.{Stays};
 ghost use Rattle.flash_dev.specs.Rules.{IsKept};
+ghost use Rattle.image_make.specs.Generated.{generated_script};
+ghost use Rattle.report_text.specs.Summary.{summary_line};
 ghost use Rattle.varsvc.specs.Order.{IsRunOrder, asked};
-ghost use Rattle.varsvc.specs.Outcome.{FailsAt, FlashFails, IsText, LeavesImage, ReadsInput, format_row, inspection_row, row};
+ghost use Rattle.varsvc.specs.Outcome.{FailsAt, FlashFails, IsText, LeavesImage, ReadsInput, format_row, inspection_row, row, text_row};
 ghost use Rattle.varsvc.specs.Plan.{HasPlanValues, IsStreamed, status_of, text_of};
 ghost use Rattle.varsvc.specs.Told.{told_of};
+ghost use Rattle.varsvc.specs.Work.{work_summary};
 
 use crate::image_plan::{plan_format, plan_inspection};
 use crate::inspection::Inspection;
 use crate::order::Order;
-use crate::plan::plan_usage;
+use crate::plan::{Plan, plan_usage};
 use crate::planned::Planned;
 use crate::run_plan::plan_run;
+use crate::streamed::Streamed;
 use crate::words::read_words;
+use crate::work_plan::plan_work;
 use flash_dev::Flash;
 use outside::Source;
 use std::alloc::Global;
@@ -44,6 +49,27 @@ fn plan_formatted<F: Flash>(alloc: Global, image: F) -> Planned<F>
     Planned { plan, image }
 }
 
+fn plan_made<F: Flash>(number: u32, image: F) -> Planned<F>
+    ensures text { IsText (text_row (generated_script number)) (status_of result.plan) (text_of result.plan) }
+    ensures image { result.image ≡ image }
+{
+    let streamed = Streamed::Script { number };
+    Planned {
+        plan: Plan::Stream { streamed },
+        image,
+    }
+}
+
+fn plan_worked<F: Flash>(alloc: Global, number: u32, image: F) -> Planned<F>
+    ensures text { IsText (text_row (summary_line (work_summary number))) (status_of result.plan) (text_of result.plan) }
+    ensures image { result.image ≡ image }
+{
+    Planned {
+        plan: plan_work(alloc, number),
+        image,
+    }
+}
+
 /// Does what the words ask for, and plans what is to be printed. The words are read once.
 pub fn plan_asked<S: Source, F: Flash>(
     alloc: Global,
@@ -69,6 +95,8 @@ pub fn plan_asked<S: Source, F: Flash>(
         Ok(Order::List { .. }) => plan_inspected(alloc, Inspection::Listing, image),
         Ok(Order::Check { .. }) => plan_inspected(alloc, Inspection::Check, image),
         Ok(Order::Format { .. }) => plan_formatted(alloc, image),
+        Ok(Order::Make { number }) => plan_made(number, image),
+        Ok(Order::Work { number }) => plan_worked(alloc, number, image),
         Err(fault) => Planned {
             plan: plan_usage(alloc, fault),
             image,

@@ -89,6 +89,7 @@ pub fn write_usage_line<P: Put>(fault: UsageFault, out: &mut P)
         UsageFault::Extra { at } => {
             write_line(&[usage, Part::Word(Word::Extra), Part::Number(at)], out)
         }
+        UsageFault::Number => write_line(&[usage, Part::Word(Word::Number)], out),
         UsageFault::OutOfMemory => write_memory_line(out),
     }
 }

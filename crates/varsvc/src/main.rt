@@ -15,6 +15,7 @@ mod image_tests;
 mod input;
 mod inspection;
 mod laws;
+mod number;
 mod order;
 mod parse;
 mod plan;
@@ -36,7 +37,10 @@ mod tests;
 mod top;
 mod usage;
 mod verb;
+#[cfg(test)]
+mod word_tests;
 mod words;
+mod work_plan;
 
 pub use image_name::ImageName;
 pub use laws::{

@@ -1,4 +1,4 @@
-ghost use Rattle.std.specs.Prelude.{◌≡◌};
+ghost use Rattle.std.specs.Prelude.{◌≡◌, option_map};
 
 use crate::image_name::ImageName;
 
@@ -13,20 +13,25 @@ pub enum Order {
     Check { image: ImageName },
     /// Leave an image without variables.
     Format { image: ImageName },
+    /// Print the script of a number.
+    Make { number: u32 },
+    /// Run the script of a number on a blank image in memory.
+    Work { number: u32 },
 }
 
 impl Order {
     ghost use Rattle.varsvc.specs.Order.{image_of};
 
-    /// The image that it is about.
-    pub fn image(&self) -> &ImageName
-        ensures { result.now ≡ image_of self.now }
+    /// The image that it is about, if it is about one.
+    pub fn image(&self) -> Option<&ImageName>
+        ensures { option_map (λ image. image.now) result ≡ image_of self.now }
     {
         match self {
             Order::Run { image }
             | Order::List { image }
             | Order::Check { image }
-            | Order::Format { image } => image,
+            | Order::Format { image } => Some(image),
+            Order::Make { .. } | Order::Work { .. } => None,
         }
     }
 }

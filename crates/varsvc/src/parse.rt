@@ -2,28 +2,34 @@
 ghost use Rattle.std.specs.Prelude.{◌≡◌, IfOk, false, map, option_map, string_bytes};
 ghost use Rattle.clap.specs.Words.{FailsBy, HasMatchesOf, app_of, fault_of, subcommand_rows_of};
 ghost use Rattle.clap.specs.declared.builder.command.Command.TheViews.{out-Command};
-ghost use Rattle.varsvc.specs.Cli.{cli, image_app, image_in, refusal_of};
+ghost use Rattle.varsvc.specs.Cli.{cli, operand_app, operand_in, refusal_of};
 
 use crate::usage::UsageFault;
 use clap::error::ErrorKind;
 use clap::{Arg, ArgMatches, Command, Error};
 use std::alloc::{AllocError, Global};
 
-fn image_command<'a>(alloc: Global, name: &'a str) -> Result<Command<'a>, AllocError>
-    ensures app { IfOk result (λ command. app_of command ≡ image_app name.entry.now) }
+fn operand_command<'a>(
+    alloc: Global,
+    name: &'a str,
+    operand: &'a str,
+) -> Result<Command<'a>, AllocError>
+    ensures app { IfOk result (λ command. app_of command ≡ operand_app name.entry.now operand.entry.now) }
     ensures local { IfOk result (λ command. (out-Command command).has_globals ≡ false) }
 {
-    let image = Arg::new(alloc, "image").required(true);
-    Command::new(alloc, name).arg(image)
+    let operand = Arg::new(alloc, operand).required(true);
+    Command::new(alloc, name).arg(operand)
 }
 
 fn command<'a>(alloc: Global) -> Result<Command<'a>, AllocError>
     ensures { IfOk result (λ command. app_of command ≡ cli) }
 {
-    let run = image_command(alloc, "run")?;
-    let list = image_command(alloc, "list")?;
-    let check = image_command(alloc, "check")?;
-    let format = image_command(alloc, "format")?;
+    let run = operand_command(alloc, "run", "image")?;
+    let list = operand_command(alloc, "list", "image")?;
+    let check = operand_command(alloc, "check", "image")?;
+    let format = operand_command(alloc, "format", "image")?;
+    let make = operand_command(alloc, "make", "number")?;
+    let work = operand_command(alloc, "work", "number")?;
     let bare = Command::new(alloc, "varsvc")
         .no_binary_name(true)
         .disable_help_flag(true)
@@ -32,7 +38,9 @@ fn command<'a>(alloc: Global) -> Result<Command<'a>, AllocError>
     bare.subcommand(run)?
         .subcommand(list)?
         .subcommand(check)?
-        .subcommand(format)
+        .subcommand(format)?
+        .subcommand(make)?
+        .subcommand(work)
 }
 
 /// Parses a verb and the words behind it.
@@ -44,12 +52,12 @@ pub fn parse<'a>(alloc: Global, words: &'a [String]) -> Result<ArgMatches<'a>, E
     command.try_get_matches_from(words)
 }
 
-/// The image that was read behind a verb.
-pub fn image_in<'a>(matches: &ArgMatches<'a>) -> Option<&'a str>
-    ensures { option_map (λ text. text.now) result ≡ image_in (subcommand_rows_of matches.now) }
+/// The word of this name that was read behind a verb.
+pub fn operand_in<'a>(matches: &ArgMatches<'a>, name: &str) -> Option<&'a str>
+    ensures { option_map (λ text. text.now) result ≡ operand_in name.now (subcommand_rows_of matches.now) }
 {
-    let (_, image) = matches.subcommand()?;
-    image.get_str("image")
+    let (_, operand) = matches.subcommand()?;
+    operand.get_str(name)
 }
 
 /// Why words are refused, by the kind of the error.

@@ -4,7 +4,7 @@ ghost use Rattle.std.specs.Io.KnownBytes.{Appends};
 ghost use Rattle.outside.specs.Written.{AppendsPart};
 ghost use Rattle.report_text.specs.Flow.{PutsThrough, empty};
 ghost use Rattle.varsvc.specs.Outcome.{FailsAt};
-ghost use Rattle.varsvc.specs.declared.streamed.Streamed.TheVariants.{Listing, Report};
+ghost use Rattle.varsvc.specs.declared.streamed.Streamed.TheVariants.{Listing, Report, Script};
 ghost use Rattle.varsvc.specs.Plan.{ComesTo, Gains, IsOutcome, IsPrintable, lacks_in, report_status, text_of};
 ghost use Rattle.varsvc.specs.Runs.{lacks_any};
 
@@ -13,6 +13,7 @@ use crate::fault_lines::write_memory_line;
 use crate::plan::Plan;
 use crate::streamed::Streamed;
 use flash_dev::HEADERS_BYTES;
+use image_make::make_script;
 use outside::{Failed, Sink};
 use report_text::{Outlet, Page, write_listing, write_session};
 use std::alloc::Global;
@@ -43,8 +44,8 @@ fn print_text<K: Sink>(status: u8, text: &[u8], out: &mut K) -> u8
     }
 }
 
-// Whether some call of a processor was out of memory.
-fn lacks_any(answers: &Answers) -> bool
+/// Whether some call of a processor was out of memory.
+pub fn lacks_any(answers: &Answers) -> bool
     ensures { result ≡ lacks_any answers.now.answered }
 {
     answers.as_slice().iter().any(|a| a.lacks_memory())
@@ -85,12 +86,21 @@ fn write_report<P: Put>(session: &Session, out: &mut P) -> u8
     report_status(session)
 }
 
+// Puts the script of a number, and answers 0.
+fn write_script<P: Put>(number: u32, out: &mut P) -> u8
+    ensures { (text : List ℕ) × ComesTo (Script number) result text × P.Puts out.old out.new text }
+{
+    make_script(number, out);
+    0
+}
+
 fn write_streamed<P: Put>(alloc: Global, streamed: &Streamed, out: &mut P) -> u8
     ensures { (text : List ℕ) × ComesTo streamed.now result text × P.Puts out.old out.new text }
 {
     match streamed {
         Streamed::Report { session } => write_report(session, out),
         Streamed::Listing { content } => write_variables(alloc, content, out),
+        Streamed::Script { number } => write_script(*number, out),
     }
 }
 

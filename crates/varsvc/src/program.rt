@@ -51,7 +51,10 @@ fn run_order<R: Files, S: Source, K: Sink>(
 where
     R::File: Send,
 {
-    let path = order.image().text();
+    let Some(image) = order.image() else {
+        return varsvc(alloc, words, script, no_flash(alloc), out).status;
+    };
+    let path = image.text();
     if let Order::Format { .. } = order {
         // A failure shows where the file is opened.
         let _ = make_image_file(rt, path);

@@ -8,4 +8,6 @@ pub enum Streamed {
     Report { session: Session },
     /// The listing of the variables of a content.
     Listing { content: Content },
+    /// The script of a number.
+    Script { number: u32 },
 }

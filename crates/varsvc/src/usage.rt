@@ -15,6 +15,8 @@ pub enum UsageFault {
     Missing { want: u32, have: u32 },
     #[error("word {at} is one too many")]
     Extra { at: u64 },
+    #[error("the word after the verb is no number of 1 to 6 decimal digits")]
+    Number,
     #[error("out of memory")]
     OutOfMemory,
 }

@@ -1,8 +1,6 @@
 ghost use Rattle.std.specs.Prelude.{◌≡◌, string_bytes};
-ghost use Rattle.varsvc.specs.Order.{order_with, verb_of};
-
-use crate::image_name::ImageName;
-use crate::order::Order;
+ghost use Rattle.varsvc.specs.Cli.{operand_word};
+ghost use Rattle.varsvc.specs.Order.{verb_of};
 
 /// A verb of the command line.
 #[derive(Clone, Copy, Debug, PartialEq, Eq)]
@@ -11,6 +9,8 @@ pub enum Verb {
     List,
     Check,
     Format,
+    Make,
+    Work,
 }
 
 /// The verb of a word.
@@ -22,18 +22,18 @@ pub fn verb_of(word: &String) -> Option<Verb>
         "list" => Some(Verb::List),
         "check" => Some(Verb::Check),
         "format" => Some(Verb::Format),
+        "make" => Some(Verb::Make),
+        "work" => Some(Verb::Work),
         _ => None,
     }
 }
 
-/// The order of a verb with its image.
-pub fn order_with(verb: Verb, image: ImageName) -> Order
-    ensures { result ≡ order_with verb image }
+/// What the word behind a verb is called.
+pub fn operand_word(verb: Verb) -> &'static str
+    ensures { result.now ≡ operand_word verb }
 {
     match verb {
-        Verb::Run => Order::Run { image },
-        Verb::List => Order::List { image },
-        Verb::Check => Order::Check { image },
-        Verb::Format => Order::Format { image },
+        Verb::Run | Verb::List | Verb::Check | Verb::Format => "image",
+        Verb::Make | Verb::Work => "number",
     }
 }

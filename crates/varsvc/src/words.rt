@@ -1,13 +1,14 @@
-ghost use Rattle.std.specs.Prelude.{◌≡◌, ◌==◌, ◌<◌, ℕ, List, ◌∷◌, length, map, position, string_bytes, None, Some, Ok, IfSome};
+ghost use Rattle.std.specs.Prelude.{◌≡◌, ◌==◌, ◌<◌, ℕ, List, ◌∷◌, length, map, position, string_bytes, None, Some, IfSome, MatchResult};
 ghost use Rattle.clap.specs.Words.{subcommand_rows_of};
-ghost use Rattle.varsvc.specs.Cli.{image_in, refusal_by_number, verb_word};
-ghost use Rattle.varsvc.specs.Order.{order_of, verb_order, image_order, is_dashed, order_with, GivesOrder};
+ghost use Rattle.varsvc.specs.Cli.{operand_in, operand_word, verb_word};
+ghost use Rattle.varsvc.specs.Order.{order_of, verb_order, operand_order, is_dashed, order_with, wanted_number, GivesOrder, IsUsage};
 
 use crate::image_name::ImageName;
+use crate::number::number_of;
 use crate::order::Order;
-use crate::parse::{image_in, parse, refusal_of};
+use crate::parse::{operand_in, parse, refusal_of};
 use crate::usage::UsageFault;
-use crate::verb::{Verb, order_with, verb_of};
+use crate::verb::{Verb, operand_word, verb_of};
 use clap::ArgMatches;
 use clap::error::ErrorKind;
 use std::alloc::Global;
@@ -28,31 +29,85 @@ fn first_dashed(words: &[String]) -> Option<usize>
     words.iter().position(|word| is_dashed(word))
 }
 
-// Why words are refused, where the parsing of them is out of memory: their number decides.
-fn refusal_by_number(words: &[String]) -> UsageFault
-    ensures { result ≡ refusal_by_number (length words.now) }
+fn name_of(alloc: Global, word: &str) -> Result<ImageName, UsageFault>
+    ensures { MatchResult result (λ image. image ≡ word.now) (λ e. e ≡ UsageFault.OutOfMemory) }
 {
-    match words.len() {
-        0 | 1 => UsageFault::Missing { want: 1, have: 0 },
-        2 => UsageFault::OutOfMemory,
+    match String::from_str(alloc, word) {
+        Ok(text) => Ok(ImageName::new(text)),
+        Err(_) => Err(UsageFault::OutOfMemory),
+    }
+}
+
+fn wanted_number(word: &str) -> Result<u32, UsageFault>
+    ensures { result ≡ wanted_number word.now }
+{
+    match number_of(word.as_bytes()) {
+        Some(number) => Ok(number),
+        None => Err(UsageFault::Number),
+    }
+}
+
+// The order of a verb with the word behind it.
+fn order_with(alloc: Global, verb: Verb, word: &str) -> Result<Order, UsageFault>
+    ensures { GivesOrder result (order_with verb word.now) }
+{
+    match verb {
+        Verb::Run => Ok(Order::Run {
+            image: name_of(alloc, word)?,
+        }),
+        Verb::List => Ok(Order::List {
+            image: name_of(alloc, word)?,
+        }),
+        Verb::Check => Ok(Order::Check {
+            image: name_of(alloc, word)?,
+        }),
+        Verb::Format => Ok(Order::Format {
+            image: name_of(alloc, word)?,
+        }),
+        Verb::Make => Ok(Order::Make {
+            number: wanted_number(word)?,
+        }),
+        Verb::Work => Ok(Order::Work {
+            number: wanted_number(word)?,
+        }),
+    }
+}
+
+// Why the word behind a verb is refused, where the parsing of it is out of memory.
+fn refused_operand(verb: Verb, word: &String) -> UsageFault
+    ensures { IsUsage result (order_with verb (string_bytes word.now)) }
+{
+    match verb {
+        Verb::Run | Verb::List | Verb::Check | Verb::Format => UsageFault::OutOfMemory,
+        Verb::Make | Verb::Work => match wanted_number(word.as_str()) {
+            Ok(_) => UsageFault::OutOfMemory,
+            Err(fault) => fault,
+        },
+    }
+}
+
+// Why the words behind a verb are refused, where the parsing of them is out of memory: their number decides.
+fn refusal_by_number(verb: Verb, rest: &[String]) -> UsageFault
+    ensures { IsUsage result (operand_order verb (map string_bytes rest.now)) }
+{
+    match rest {
+        [] => UsageFault::Missing { want: 1, have: 0 },
+        [word] => refused_operand(verb, word),
         _ => UsageFault::Extra { at: 2 },
     }
 }
 
 fn parsed_order(alloc: Global, verb: Verb, matches: &ArgMatches<'_>) -> Result<Order, UsageFault>
-    ensures { (image : List ℕ) → image_in (subcommand_rows_of matches.now) ≡ Some image → GivesOrder result (Ok (order_with verb image)) }
+    ensures { (word : List ℕ) → operand_in (operand_word verb) (subcommand_rows_of matches.now) ≡ Some word → GivesOrder result (order_with verb word) }
 {
-    let Some(image) = image_in(matches) else {
-        return Err(UsageFault::OutOfMemory);
-    };
-    match String::from_str(alloc, image) {
-        Ok(text) => Ok(order_with(verb, ImageName::new(text))),
-        Err(_) => Err(UsageFault::OutOfMemory),
+    match operand_in(matches, operand_word(verb)) {
+        Some(word) => order_with(alloc, verb, word),
+        None => Err(UsageFault::OutOfMemory),
     }
 }
 
 // What a verb and the words behind it ask for, by the parse of at most three of them: a fourth changes nothing.
-fn image_order(
+fn operand_order(
     alloc: Global,
     verb: Verb,
     words: &[String],
@@ -60,12 +115,12 @@ fn image_order(
 ) -> Result<Order, UsageFault>
     requires words { map string_bytes words.now ≡ verb_word verb ∷ map string_bytes rest.now }
     requires undashed { position is_dashed (map string_bytes rest.now) ≡ None }
-    ensures { GivesOrder result (image_order verb (map string_bytes rest.now)) }
+    ensures { GivesOrder result (operand_order verb (map string_bytes rest.now)) }
 {
     match parse(alloc, &words[..MOST_WORDS.min(words.len())]) {
         Ok(matches) => parsed_order(alloc, verb, &matches),
         Err(error) => match error.kind() {
-            ErrorKind::OutOfMemory => Err(refusal_by_number(words)),
+            ErrorKind::OutOfMemory => Err(refusal_by_number(verb, rest)),
             kind => Err(refusal_of(kind)),
         },
     }
@@ -83,7 +138,7 @@ fn verb_order(
 {
     match first_dashed(rest) {
         Some(at) => Err(UsageFault::Dash { at: at as u64 + 1 }),
-        None => image_order(alloc, verb, words, rest),
+        None => operand_order(alloc, verb, words, rest),
     }
 }
 

@@ -8,8 +8,12 @@ pub returns : goal.returns
 returns c =
     let top : App → _ = λ a. a.top in
     let bare_is : app_of c.disable_version_flag-bare.result ≡ bare = search rules in
-    IfOk-weaker c.subcommand-4.result _ _
-    (λ r added. added.shape c.in_ok-format.ensures.local
+    IfOk-weaker c.subcommand-6.result _ _
+    (λ r added. added.shape c.in_ok-work.ensures.local
+    ∙ ap₂ with_subcommand
+    (c.in_ok-subcommand-5.ensures.shape c.in_ok-make.ensures.local
+    ∙ ap₂ with_subcommand
+    (c.in_ok-subcommand-4.ensures.shape c.in_ok-format.ensures.local
     ∙ ap₂ with_subcommand
     (c.in_ok-subcommand-3.ensures.shape c.in_ok-check.ensures.local
     ∙ ap₂ with_subcommand
@@ -18,4 +22,6 @@ returns c =
     (ap top c.in_ok-list.ensures.app))
     (ap top c.in_ok-check.ensures.app))
     (ap top c.in_ok-format.ensures.app))
-    c.subcommand-4.ensures
+    (ap top c.in_ok-make.ensures.app))
+    (ap top c.in_ok-work.ensures.app))
+    c.subcommand-6.ensures

@@ -19,10 +19,10 @@ pub returns-in-None : goal.returns-in-None
 unfolding verb_order
 returns-in-None c =
     let words = c.args.rest.now in
-    subst (GivesOrder c.image_order.result)
+    subst (GivesOrder c.operand_order.result)
     (sym (ap (dashed_order c.args.verb (map (string_bytes {Z = Global}) words)) (first_by_bytes words c.first_dashed.result c.first_dashed.ensures.position ∙ c.in-None.is)))
-    c.image_order.ensures
+    c.operand_order.ensures
 
-pub image_order-requires-clause-undashed : goal.image_order-requires-clause-undashed
-image_order-requires-clause-undashed c =
+pub operand_order-requires-clause-undashed : goal.operand_order-requires-clause-undashed
+operand_order-requires-clause-undashed c =
     first_by_bytes c.args.rest.now c.first_dashed.result c.first_dashed.ensures.position ∙ c.in-None.is

@@ -49,11 +49,7 @@ fn engine_sizes<F: Flash>(alloc: Global, engine: &Engine<F>) -> Result<Sizes, Ou
 }
 
 // What answered calls come to, none of which was out of memory.
-fn summed<F: Flash>(
-    alloc: Global,
-    engine: &Engine<F>,
-    desk: &Desk,
-) -> Result<Summary, OutOfMemory>
+fn summed<F: Flash>(alloc: Global, engine: &Engine<F>, desk: &Desk) -> Result<Summary, OutOfMemory>
     ensures able { OnOk result (lacks_any desk.now.answered ≡ false) }
     ensures summary { IfOk result (λ summary. summary ≡ summary_of (replies_of desk.now.answered) (sizes_of (state_of engine.now.1.1).variables)) }
 {

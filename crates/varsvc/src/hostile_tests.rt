@@ -65,7 +65,10 @@ fn push_header(
     put(&mut header, 36, &random.size(2 * units + 2).to_le_bytes());
     put(&mut header, 40, &random.size(data).to_le_bytes());
     put(&mut header, 44, &[random.byte() % 3]);
-    bytes.extend_from_slice(&header[..60])
+    match header.get(..60) {
+        Some(front) => bytes.extend_from_slice(front),
+        None => Ok(()),
+    }
 }
 
 // A record up to the next multiple of 4, one in the erased state its header only. Names are few, so that keys come again.

@@ -16,6 +16,8 @@ mod input;
 mod inspection;
 mod laws;
 mod number;
+#[cfg(test)]
+mod number_tests;
 mod order;
 mod parse;
 mod plan;

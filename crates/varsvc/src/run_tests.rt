@@ -99,6 +99,7 @@ fn what_is_refused_touches_no_image(rt: HostRuntime) -> Result<(), Fail> {
     let alloc = rt.alloc();
     let image = blank(alloc)?;
     let mut foreign = blank(alloc)?;
+    assert!(rt; foreign.len() == 131_072);
     foreign[0x10000] = 0;
     let cases: [(&[u8], &str, u8, &str); 3] = [
         (&image, "0 fly\n", 3, "script line 1 verb\n"),

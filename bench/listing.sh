@@ -5,7 +5,7 @@
 set -eu
 top="$(cd "$(dirname "${BASH_SOURCE[0]}")/.." && pwd)"
 program="${1:-$top/crates/varsvc/out/varsvc}"
-[ -x "$program" ] || "$top/varsvc" run none </dev/null >/dev/null
+[ -x "$program" ] || "$top/varsvc" list none >/dev/null || true
 
 exec python3 - "$program" <<'PYTHON'
 import struct, subprocess, sys, tempfile, time, uuid

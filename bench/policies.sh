@@ -5,10 +5,10 @@
 set -eu
 top="$(cd "$(dirname "${BASH_SOURCE[0]}")/.." && pwd)"
 program="${1:-$top/crates/varsvc/out/varsvc}"
-[ -x "$program" ] || "$top/varsvc" run none </dev/null >/dev/null
+[ -x "$program" ] || "$top/varsvc" list none >/dev/null || true
 
 exec python3 - "$program" <<'PYTHON'
-import struct, subprocess, sys, time
+import os, struct, subprocess, sys, tempfile, time
 
 VENDOR = "8be4df6193ca11d2aa0d00e098032b8c"
 STORED = bytes.fromhex("61dfe48bca93d211aa0d00e098032b8c")
@@ -44,11 +44,15 @@ def script(entries, name):
 def measure(program, text):
     """The least time of some runs in seconds, and the report."""
     best = None
-    for _ in range(RUNS):
-        begin = time.monotonic()
-        done = subprocess.run([program, "run", "none"], input=text, stdout=subprocess.PIPE, check=True)
-        seconds = time.monotonic() - begin
-        best = seconds if best is None else min(best, seconds)
+    with tempfile.TemporaryDirectory() as folder:
+        # The variables are volatile, so the image stays as it is.
+        image = os.path.join(folder, "vars.fd")
+        subprocess.run([program, "format", image], check=True)
+        for _ in range(RUNS):
+            begin = time.monotonic()
+            done = subprocess.run([program, "run", image], input=text, stdout=subprocess.PIPE, check=True)
+            seconds = time.monotonic() - begin
+            best = seconds if best is None else min(best, seconds)
     return best, done.stdout.decode()
 
 

@@ -2,9 +2,11 @@
 #![tactic(auto)]
 
 mod choice;
+mod counted_policy;
 mod matching;
 #[cfg(test)]
 mod tests;
 
 pub use choice::best;
+pub use counted_policy::CountedPolicy;
 pub use matching::{matches, wildcards};

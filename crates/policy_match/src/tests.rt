@@ -1,4 +1,4 @@
-use crate::{best, matches, wildcards};
+use crate::{CountedPolicy, best, matches, wildcards};
 use std::alloc::Global;
 use std::test::Fail;
 use var_types::{Guid, Lock, Policy, Units};
@@ -61,20 +61,25 @@ fn a_wildcard_is_over_a_digit_alone(rt: HostRuntime) -> Result<(), Fail> {
             "{own} of another namespace"
         );
         assert_eq!(rt; wildcards(&policy), count, "{own}");
+        assert_eq!(rt; CountedPolicy::new(policy).wildcards(), count, "{own}");
     }
     Ok(())
+}
+
+fn counted(alloc: Global, namespace: Guid, text: &str) -> Result<CountedPolicy, Fail> {
+    Ok(CountedPolicy::new(policy(alloc, namespace, text)?))
 }
 
 #[test]
 fn the_first_with_the_fewest_wildcards_counts(rt: HostRuntime) -> Result<(), Fail> {
     let alloc = rt.alloc();
     let policies = [
-        policy(alloc, FIRST, "Boot####")?,
-        policy(alloc, FIRST, "Boot0###")?,
-        policy(alloc, FIRST, "")?,
-        policy(alloc, FIRST, "Boot0001")?,
-        policy(alloc, SECOND, "A#1")?,
-        policy(alloc, SECOND, "A1#")?,
+        counted(alloc, FIRST, "Boot####")?,
+        counted(alloc, FIRST, "Boot0###")?,
+        counted(alloc, FIRST, "")?,
+        counted(alloc, FIRST, "Boot0001")?,
+        counted(alloc, SECOND, "A#1")?,
+        counted(alloc, SECOND, "A1#")?,
     ];
     let cases = [
         (FIRST, "Boot0001", Some(3)),

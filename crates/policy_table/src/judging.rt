@@ -7,7 +7,7 @@ ghost use Rattle.var_types.specs.State.{State, stored_at};
 
 use crate::state_view::StateView;
 use crate::table::PolicyTable;
-use policy_match::best;
+use policy_match::{CountedPolicy, best};
 use var_types::{Ask, Denied, Key, Lock, Policy, Rule, best_is_best};
 
 /// A greatest size that is no limit (EDK II, VARIABLE_POLICY_NO_MAX_SIZE).
@@ -100,7 +100,7 @@ fn denied_at<V: StateView>(view: &V, ask: &Ask, place: u32, policy: &Policy) -> 
 }
 
 /// Whether the policy that counts denies, and by which rule.
-fn denial<V: StateView>(view: &V, ask: &Ask, policies: &[Policy]) -> Option<Denied>
+fn denial<V: StateView>(view: &V, ask: &Ask, policies: &[CountedPolicy]) -> Option<Denied>
     requires { length policies.now ≤ 1024 }
     ensures { (state : State) → V.is_of view.now state
         → result ≡ denied_by state (question_of ask.now) (best policies.now (key_of ask.now.guid.now ask.now.name.now)) }
@@ -108,7 +108,7 @@ fn denial<V: StateView>(view: &V, ask: &Ask, policies: &[Policy]) -> Option<Deni
     best_is_best();
     match best(policies, ask.guid, ask.name) {
         None => None,
-        Some(place) => denied_at(view, ask, place, &policies[place as usize]),
+        Some(place) => denied_at(view, ask, place, policies[place as usize].policy()),
     }
 }
 

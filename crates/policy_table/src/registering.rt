@@ -5,6 +5,7 @@ ghost use Rattle.var_types.specs.PolicyStep.{if_new, if_read, registered};
 
 use crate::table::{MOST_POLICIES, PolicyTable, place_of};
 use policy_entry::{read_entry, write_entry};
+use policy_match::CountedPolicy;
 use var_types::{Bytes, EntryFault, Policy, PolicyReason};
 
 fn reason_of(fault: EntryFault) -> PolicyReason
@@ -58,7 +59,7 @@ impl PolicyTable {
         ensures err { OnErr result (self.new ≡ self.old) }
         ensures memory { IfErr result (λ reason. reason ≡ PolicyReason.OutOfMemory) }
     {
-        match self.policies.push(policy) {
+        match self.policies.push(CountedPolicy::new(policy)) {
             Ok(()) => Ok(()),
             Err(_) => Err(PolicyReason::OutOfMemory),
         }
@@ -98,7 +99,7 @@ impl PolicyTable {
                 let entries = self.entries();
                 Err(PolicyReason::NoEntry { entries })
             }
-            Some(policy) => match write_entry(policy, out) {
+            Some(policy) => match write_entry(policy.policy(), out) {
                 Ok(()) => Ok(()),
                 Err(_) => Err(PolicyReason::OutOfMemory),
             },

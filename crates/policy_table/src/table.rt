@@ -2,6 +2,7 @@ ghost use Rattle.std.specs.Prelude.{◌≡◌, ◌≤◌, true, false, length, p
 ghost use Rattle.policy_table.specs.PolicyState.{no_policies};
 ghost use Rattle.var_types.specs.PolicyStep.{is_same_entry, is_same_name, may_disable, may_lock};
 
+use policy_match::CountedPolicy;
 use std::alloc::Global;
 use std::marker::Model;
 use var_types::{Policy, PolicyReason, Units};
@@ -13,7 +14,7 @@ pub(crate) const MOST_POLICIES: u32 = 1024;
 #[derive(Drop)]
 pub struct PolicyTable {
     pub(crate) alloc: Global,
-    pub(crate) policies: Vec<Policy>,
+    pub(crate) policies: Vec<CountedPolicy>,
     pub(crate) policy_on: bool,
     pub(crate) locked: bool,
 }
@@ -47,12 +48,12 @@ fn is_same_entry(policy: &Policy, other: &Policy) -> bool
 }
 
 /// The place of the policy that has the namespace and the name of another.
-pub(crate) fn place_of(policies: &[Policy], policy: &Policy) -> Option<usize>
+pub(crate) fn place_of(policies: &[CountedPolicy], policy: &Policy) -> Option<usize>
     ensures { result ≡ position (is_same_entry policy.now) policies.now }
 {
     policies
         .iter()
-        .position(|other| is_same_entry(policy, other))
+        .position(|other| is_same_entry(policy, other.policy()))
 }
 
 impl PolicyTable {
@@ -81,7 +82,7 @@ impl PolicyTable {
         self.locked
     }
 
-    pub(crate) fn policies(&self) -> &[Policy]
+    pub(crate) fn policies(&self) -> &[CountedPolicy]
         ensures items { result.now ≡ self.now.policies }
         ensures few { length self.now.policies ≤ 1024 }
     {

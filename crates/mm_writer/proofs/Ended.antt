@@ -1,5 +1,5 @@
 -- An edit of the volatile store is no change of a non-volatile variable.
-use Rattle.std.proofs.Common.{◌≡◌, true, Bool, List, Option, Some, None, IfSome, cond, is_eq, ⊎_elim, sym, ap, subst, ◌∙◌}
+use Rattle.std.proofs.Common.{◌≡◌, true, Option, Some, None, IfSome, cond, is_eq, ⊎_elim, sym, ap, subst, ◌∙◌}
 use Rattle.std.proofs.lemmas.Cmp.{tied_itself}
 use Rattle.std.specs.BTreeMap.{is_at}
 use Rattle.std.specs.Map.{lookup}
@@ -13,7 +13,6 @@ use Rattle.var_types.proofs.Entries.{lookup-insert_entry}
 use Rattle.var_types.proofs.Keys.{key_cmp_total}
 use Rattle.var_types.specs.Attributes.{has, non_volatile_bit, store_of}
 use Rattle.var_types.specs.declared.call.SetCall.{SetCall}
-use Rattle.var_types.specs.declared.key.Key.{Key}
 use Rattle.var_types.specs.declared.reply.SetReply.{SetReply}
 use Rattle.var_types.specs.declared.reply.SetReply.TheVariants.{Ok as Changed}
 use Rattle.var_types.specs.declared.store.Store.TheVariants.{NonVolatile, Volatile}

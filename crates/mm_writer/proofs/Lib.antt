@@ -4,6 +4,7 @@ pub mod Consistent
 pub mod Edits
 pub mod Sides
 pub mod Written
+pub mod InMemory
 pub mod Able
 pub mod Views
 pub mod RoomsAfter

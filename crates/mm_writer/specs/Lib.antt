@@ -4,4 +4,5 @@ pub mod Books
 pub mod Edit
 pub mod Changes
 pub mod Stands
+pub mod KeyPlaces
 pub mod Engine

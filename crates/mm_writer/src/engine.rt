@@ -1,10 +1,10 @@
-ghost use Rattle.std.specs.Prelude.{◌≡◌, ◌≢◌, ◌<◌, ◌≤◌, ◌^◌, ◌++◌, drop, None, true, IfOk, IfSome, List, length};
+ghost use Rattle.std.specs.Prelude.{◌≡◌, ◌≢◌, ◌<◌, ◌≤◌, ◌^◌, ◌++◌, drop, None, true, false, IfOk, IfSome, List, length};
 ghost use Rattle.flash_dev.specs.Moments.{Stays};
 ghost use Rattle.flash_dev.specs.Rules.{IsKept as IsImageKept, Leaves};
 ghost use Rattle.mm_writer.specs.Edit.{MayEdit, MayWrite, edit_key, edited};
 ghost use Rattle.mm_writer.specs.Outcome.{HasReplyCause, IsAnswered, IsKeptBy, IsSetLeft};
 ghost use Rattle.mm_writer.specs.Side.{IsConsistent, state_of};
-ghost use Rattle.mm_writer.specs.Stands.{Stands};
+ghost use Rattle.mm_writer.specs.Stands.{IsTotalWithout, Stands};
 ghost use Rattle.policy_table.specs.PolicyState.{policies_of};
 ghost use Rattle.outside.specs.Faults.{HasRisen};
 ghost use Rattle.var_types.specs.declared.call.Call.TheVariants.{Set as SetCalled};
@@ -87,20 +87,30 @@ impl<F: Flash> Engine<F> {
         }
     }
 
-    fn decision(&self, call: &SetCall) -> Decision
-        ensures decision { result ≡ decision (state_of self.now.1.1) call.now }
+    // What a set comes to, and the room totals of all variables but its own.
+    fn decision(&self, call: &SetCall) -> (Decision, RoomTotals)
+        ensures decision { result.0 ≡ decision (state_of self.now.1.1) call.now }
+        ensures rest { IsTotalWithout result.1 (set_key call.now) (state_of self.now.1.1).variables }
         ensures kept { self.now.1.0 ≡ None → IfSome (F.holds self.now.0) (IsKeptBy self.now.1.1) }
     {
-        decide(&self.view(), call)
+        let view = self.view().at(&call.guid, call.name.as_slice());
+        (decide(&view, call), view.rest())
     }
 
     // Makes an edit of the volatile store that a set comes to.
-    fn edit_volatile(&mut self, edit: &Edit, caller: Caller, call: &SetCall) -> SetReply
+    fn edit_volatile(
+        &mut self,
+        edit: &Edit,
+        caller: Caller,
+        call: &SetCall,
+        rest: RoomTotals,
+    ) -> SetReply
         requires may { MayEdit (state_of self.old.1.1) Volatile edit.now }
         requires key { edit_key edit.now ≡ set_key call.now }
         requires step { set_step (state_of self.old.1.1) call.now
             ≡ (Changed, changed (state_of self.old.1.1) (edited edit.now (state_of self.old.1.1).variables)) }
         requires more { (state_of self.old.1.1).made < (state_of self.old.1.1).limit }
+        requires rest { IsTotalWithout rest (set_key call.now) (state_of self.old.1.1).variables }
         ensures answered { IsAnswered self.old.1.1 self.new.1.1 caller.processor caller.index (SetCalled call.now) (SetReplied result) }
         ensures untouched { result ≢ Changed → result ≢ DeviceReplied → self.new.0 ≡ self.old.0 }
         ensures same_doubt { result ≢ Changed → result ≢ DeviceReplied → self.new.1.0 ≡ self.old.1.0 }
@@ -111,7 +121,8 @@ impl<F: Flash> Engine<F> {
         ensures cause { HasReplyCause (F.fault_count self.old.0) (F.fault_count self.new.0) result }
     {
         ranges_agree();
-        let totals = totals_after(&self.view(), Store::Volatile, edit);
+        let _view = self.view();
+        let totals = totals_after(rest, edit);
         match change_volatile(
             self.alloc,
             &mut self.volatile,
@@ -129,12 +140,19 @@ impl<F: Flash> Engine<F> {
     }
 
     // Makes an edit of the non-volatile store that a set comes to, once a doubt has ended.
-    fn edit_non_volatile(&mut self, edit: &Edit, caller: Caller, call: &SetCall) -> SetReply
+    fn edit_non_volatile(
+        &mut self,
+        edit: &Edit,
+        caller: Caller,
+        call: &SetCall,
+        rest: RoomTotals,
+    ) -> SetReply
         requires may { MayEdit (state_of self.old.1.1) NonVolatile edit.now }
         requires key { edit_key edit.now ≡ set_key call.now }
         requires step { set_step (state_of self.old.1.1) call.now
             ≡ (Changed, changed (state_of self.old.1.1) (edited edit.now (state_of self.old.1.1).variables)) }
         requires more { (state_of self.old.1.1).made < (state_of self.old.1.1).limit }
+        requires rest { IsTotalWithout rest (set_key call.now) (state_of self.old.1.1).variables }
         ensures answered { IsAnswered self.old.1.1 self.new.1.1 caller.processor caller.index (SetCalled call.now) (SetReplied result) }
         ensures untouched { result ≢ Changed → result ≢ DeviceReplied → self.new.0 ≡ self.old.0 }
         ensures same_doubt { result ≢ Changed → result ≢ DeviceReplied → self.new.1.0 ≡ self.old.1.0 }
@@ -145,7 +163,8 @@ impl<F: Flash> Engine<F> {
         ensures cause { HasReplyCause (F.fault_count self.old.0) (F.fault_count self.new.0) result }
     {
         ranges_agree();
-        let totals = totals_after(&self.view(), Store::NonVolatile, edit);
+        let _view = self.view();
+        let totals = totals_after(rest, edit);
         match change_non_volatile(
             self.alloc,
             &mut self.store,
@@ -164,12 +183,20 @@ impl<F: Flash> Engine<F> {
     }
 
     // Makes an edit that a set comes to.
-    fn edit(&mut self, store: Store, edit: &Edit, caller: Caller, call: &SetCall) -> SetReply
+    fn edit(
+        &mut self,
+        store: Store,
+        edit: &Edit,
+        caller: Caller,
+        call: &SetCall,
+        rest: RoomTotals,
+    ) -> SetReply
         requires may { MayEdit (state_of self.old.1.1) store edit.now }
         requires key { edit_key edit.now ≡ set_key call.now }
         requires step { set_step (state_of self.old.1.1) call.now
             ≡ (Changed, changed (state_of self.old.1.1) (edited edit.now (state_of self.old.1.1).variables)) }
         requires more { (state_of self.old.1.1).made < (state_of self.old.1.1).limit }
+        requires rest { IsTotalWithout rest (set_key call.now) (state_of self.old.1.1).variables }
         ensures answered { IsAnswered self.old.1.1 self.new.1.1 caller.processor caller.index (SetCalled call.now) (SetReplied result) }
         ensures untouched { result ≢ Changed → result ≢ DeviceReplied → self.new.0 ≡ self.old.0 }
         ensures same_doubt { result ≢ Changed → result ≢ DeviceReplied → self.new.1.0 ≡ self.old.1.0 }
@@ -180,8 +207,8 @@ impl<F: Flash> Engine<F> {
         ensures cause { HasReplyCause (F.fault_count self.old.0) (F.fault_count self.new.0) result }
     {
         match store {
-            Store::NonVolatile => self.edit_non_volatile(edit, caller, call),
-            Store::Volatile => self.edit_volatile(edit, caller, call),
+            Store::NonVolatile => self.edit_non_volatile(edit, caller, call, rest),
+            Store::Volatile => self.edit_volatile(edit, caller, call, rest),
         }
     }
 
@@ -191,7 +218,8 @@ impl<F: Flash> Engine<F> {
         ensures kept { self.now.1.0 ≡ None → IfSome (F.holds self.now.0) (IsKeptBy self.now.1.1) }
     {
         let mut bytes = Bytes::new(self.alloc);
-        if let Some(stored) = self.view().stored(&call.guid, call.name.as_slice()) {
+        let view = self.view().at(&call.guid, call.name.as_slice());
+        if let Some(stored) = view.stored(&call.guid, call.name.as_slice()) {
             bytes.append(stored.payload)?;
         }
         bytes.append(payload)?;
@@ -206,8 +234,10 @@ impl<F: Flash> Engine<F> {
         bytes: &[u8],
         caller: Caller,
         call: &SetCall,
+        rest: RoomTotals,
     ) -> SetReply
-        requires { MayWrite (state_of self.old.1.1) call.now (record { attributes = attributes; bytes = bytes.now; stamp = stamp }) }
+        requires may { MayWrite (state_of self.old.1.1) call.now (record { attributes = attributes; bytes = bytes.now; stamp = stamp }) }
+        requires rest { IsTotalWithout rest (set_key call.now) (state_of self.old.1.1).variables }
         ensures answered { IsAnswered self.old.1.1 self.new.1.1 caller.processor caller.index (SetCalled call.now) (SetReplied result) }
         ensures untouched { result ≢ Changed → result ≢ DeviceReplied → self.new.0 ≡ self.old.0 }
         ensures same_doubt { result ≢ Changed → result ≢ DeviceReplied → self.new.1.0 ≡ self.old.1.0 }
@@ -224,20 +254,21 @@ impl<F: Flash> Engine<F> {
             stamp,
             payload: bytes,
         };
-        self.edit(Store::of(attributes), &Edit::Put(new), caller, call)
+        self.edit(Store::of(attributes), &Edit::Put(new), caller, call, rest)
     }
 
-    // Writes what a set comes to: its payload, behind what is stored where it appends.
+    // Writes what a set comes to: its payload.
     fn write(
         &mut self,
         attributes: u32,
         stamp: Stamp,
         skip: u64,
-        append: bool,
         caller: Caller,
         call: &SetCall,
+        rest: RoomTotals,
     ) -> SetReply
-        requires { Writing attributes stamp skip append ≡ decision (state_of self.old.1.1) call.now }
+        requires write { Writing attributes stamp skip false ≡ decision (state_of self.old.1.1) call.now }
+        requires rest { IsTotalWithout rest (set_key call.now) (state_of self.old.1.1).variables }
         ensures answered { IsAnswered self.old.1.1 self.new.1.1 caller.processor caller.index (SetCalled call.now) (SetReplied result) }
         ensures untouched { result ≢ Changed → result ≢ DeviceReplied → self.new.0 ≡ self.old.0 }
         ensures same_doubt { result ≢ Changed → result ≢ DeviceReplied → self.new.1.0 ≡ self.old.1.0 }
@@ -249,18 +280,42 @@ impl<F: Flash> Engine<F> {
     {
         decisions_decide();
         let payload = payload_of(call, skip);
-        if !append {
-            return self.put(attributes, stamp, payload, caller, call);
-        }
+        self.put(attributes, stamp, payload, caller, call, rest)
+    }
+
+    // Writes what a set that appends comes to: its payload, behind what is stored.
+    fn append(
+        &mut self,
+        attributes: u32,
+        stamp: Stamp,
+        skip: u64,
+        caller: Caller,
+        call: &SetCall,
+        rest: RoomTotals,
+    ) -> SetReply
+        requires append { Writing attributes stamp skip true ≡ decision (state_of self.old.1.1) call.now }
+        requires rest { IsTotalWithout rest (set_key call.now) (state_of self.old.1.1).variables }
+        ensures answered { IsAnswered self.old.1.1 self.new.1.1 caller.processor caller.index (SetCalled call.now) (SetReplied result) }
+        ensures untouched { result ≢ Changed → result ≢ DeviceReplied → self.new.0 ≡ self.old.0 }
+        ensures same_doubt { result ≢ Changed → result ≢ DeviceReplied → self.new.1.0 ≡ self.old.1.0 }
+        ensures sure { result ≡ Changed → self.old.1.0 ≡ None → self.new.1.0 ≡ None }
+        ensures ended { result ≡ Changed → IsNonVolatileChange (state_of self.old.1.1) call.now → self.new.1.0 ≡ None }
+        ensures kept { result ≡ Changed → self.new.1.0 ≡ None → IfSome (F.holds self.new.0) (IsKeptBy self.new.1.1) }
+        ensures at_any_moment { self.old.1.0 ≡ None → Stays (IsSetLeft self.old.1.1 call.now) F.moment F.left_since F.holds self.old.0 self.new.0 }
+        ensures cause { HasReplyCause (F.fault_count self.old.0) (F.fault_count self.new.0) result }
+    {
+        decisions_decide();
+        let payload = payload_of(call, skip);
         match self.joined(call, payload) {
-            Ok(bytes) => self.put(attributes, stamp, bytes.as_slice(), caller, call),
+            Ok(bytes) => self.put(attributes, stamp, bytes.as_slice(), caller, call, rest),
             Err(_) => SetReply::OutOfMemory,
         }
     }
 
     // Deletes what is stored at a set's key, in its store.
-    fn remove(&mut self, store: Store, caller: Caller, call: &SetCall) -> SetReply
-        requires { Removing store ≡ decision (state_of self.old.1.1) call.now }
+    fn remove(&mut self, store: Store, caller: Caller, call: &SetCall, rest: RoomTotals) -> SetReply
+        requires remove { Removing store ≡ decision (state_of self.old.1.1) call.now }
+        requires rest { IsTotalWithout rest (set_key call.now) (state_of self.old.1.1).variables }
         ensures answered { IsAnswered self.old.1.1 self.new.1.1 caller.processor caller.index (SetCalled call.now) (SetReplied result) }
         ensures untouched { result ≢ Changed → result ≢ DeviceReplied → self.new.0 ≡ self.old.0 }
         ensures same_doubt { result ≢ Changed → result ≢ DeviceReplied → self.new.1.0 ≡ self.old.1.0 }
@@ -275,7 +330,7 @@ impl<F: Flash> Engine<F> {
             guid: call.guid,
             name: call.name.as_slice(),
         };
-        self.edit(store, &edit, caller, call)
+        self.edit(store, &edit, caller, call, rest)
     }
 
     /// Answers SetVariable, as the one-thread service does after the history so far (UEFI 2.10, 8.2.3). A set that is to change a non-volatile
@@ -292,16 +347,23 @@ impl<F: Flash> Engine<F> {
     {
         decisions_decide();
         let caller = Caller { processor, index };
-        match self.decision(call) {
+        let (decision, rest) = self.decision(call);
+        match decision {
             Decision::Refuse(reason) => SetReply::Refused(reason),
             Decision::Same => SetReply::Same,
-            Decision::Remove(store) => self.remove(store, caller, call),
+            Decision::Remove(store) => self.remove(store, caller, call, rest),
             Decision::Write {
                 attributes,
                 stamp,
                 skip,
                 append,
-            } => self.write(attributes, stamp, skip, append, caller, call),
+            } => {
+                if append {
+                    self.append(attributes, stamp, skip, caller, call, rest)
+                } else {
+                    self.write(attributes, stamp, skip, caller, call, rest)
+                }
+            }
         }
     }
 }

@@ -10,6 +10,9 @@ mod editing;
 mod engine;
 #[cfg(test)]
 mod flash_tests;
+mod in_memory;
+mod key_places;
+mod key_view;
 mod opening;
 #[cfg(test)]
 mod plain_tests;

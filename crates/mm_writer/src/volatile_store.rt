@@ -1,28 +1,25 @@
-ghost use Rattle.std.specs.Prelude.{◌≡◌, IfOk, IsSome, length, true, false};
-ghost use Rattle.std.specs.BTreeMap.{is_at};
-ghost use Rattle.std.specs.Map.{lookup};
+ghost use Rattle.std.specs.Prelude.{◌≡◌, IfOk, length, true, false};
 ghost use Rattle.flash_dev.specs.Blank.{blank_volatile};
 ghost use Rattle.mm_writer.specs.Edit.{CanEdit, CanPut, IsEdited, edit_spans};
-ghost use Rattle.mm_writer.specs.declared.edit.Edit.TheVariants.{Put as Putting, Remove as Removing};
+ghost use Rattle.mm_writer.specs.declared.edit.Edit.TheVariants.{Put as Putting};
 ghost use Rattle.nv_store.specs.Tidy.{IsTidy};
 ghost use Rattle.var_region.specs.NewRecord.{AreValues, new_size};
 ghost use Rattle.var_region.specs.Written.{fits_behind};
 ghost use Rattle.var_types.specs.declared.store.Store.TheVariants.{Volatile};
-ghost use Rattle.var_types.specs.Key.{key_cmp, key_of};
 ghost use Rattle.var_types.specs.Layout.{volatile_size};
+ghost use Rattle.var_types.specs.Region.{tail_offset};
 ghost use Rattle.var_types.specs.Spans.{AreWithin};
-ghost use Rattle.var_types.specs.Stores.{map_in, store_region};
+ghost use Rattle.var_types.specs.Stores.{store_region};
 
 use crate::edit::Edit;
+use crate::in_memory::{fits, put_at, put_spans, remove, remove_spans, tail_of};
 use flash_dev::{VOLATILE_BYTES, write_blank_volatile};
-use nv_store::{put_anew, put_spans, put_within, remove_spans, remove_within, size_of};
+use nv_store::{put_anew, size_of};
 use std::alloc::Global;
 use std::marker::Model;
 use std::mem::swap;
-use var_region::{NewRecord, region_in};
-use var_types::{Guid, OutOfMemory, Span, Store};
-
-const NOWHERE: Span = Span { from: 0, to: 0 };
+use var_region::NewRecord;
+use var_types::{OutOfMemory, Span, Store, align4};
 
 // Makes bytes the store without variables, in which nothing is left over.
 #[tactic(auto, using(crate::proofs::Beginnings::blank_tidy))]
@@ -35,44 +32,38 @@ fn write_blank(bytes: &mut [u8])
     write_blank_volatile(bytes);
 }
 
-// Puts a new record that fits behind the others.
-fn put_behind(bytes: &mut [u8], new: &NewRecord)
+// Puts a new record that fits behind the others, and answers the offset behind it.
+fn put_behind(bytes: &mut [u8], tail: u32, new: &NewRecord) -> u32
     requires size { length bytes.old ≡ volatile_size }
     requires tidy { IsTidy (store_region Volatile bytes.old) }
+    requires tail { tail ≡ tail_offset (store_region Volatile bytes.old) }
     requires can { CanPut Volatile bytes.old new.now }
     requires values { AreValues new.now }
     requires fits { fits_behind (store_region Volatile bytes.old) (new_size new.now) ≡ true }
     ensures edited { IsEdited Volatile (Putting new.now) bytes.old bytes.new }
     ensures tidy { IsTidy (store_region Volatile bytes.new) }
+    ensures tail { result ≡ tail_offset (store_region Volatile bytes.new) }
 {
-    put_within(Store::Volatile, bytes, new);
+    let end = u64::from(tail) + u64::from(size_of(new));
+    put_at(bytes, tail, new);
+    align4(end) as u32
 }
 
-// Writes a store compacted with a new record that doesn't fit behind the others.
-fn put_compacted(bytes: &[u8], new: &NewRecord, into: &mut [u8])
+// Writes a store compacted with a new record that doesn't fit behind the others, and answers the offset behind the records.
+fn put_compacted(bytes: &[u8], new: &NewRecord, into: &mut [u8]) -> u32
     requires size { length bytes.now ≡ volatile_size }
     requires into { length into.old ≡ volatile_size }
     requires can { CanPut Volatile bytes.now new.now }
     requires full { fits_behind (store_region Volatile bytes.now) (new_size new.now) ≡ false }
     ensures edited { IsEdited Volatile (Putting new.now) bytes.now into.new }
     ensures tidy { IsTidy (store_region Volatile into.new) }
+    ensures tail { result ≡ tail_offset (store_region Volatile into.new) }
 {
     match put_anew(Store::Volatile, bytes, new, into) {
-        Ok(()) => {}
+        Ok(()) => tail_of(into),
         // There is room for it, as the caller knows.
-        Err(_) => {}
+        Err(_) => 0,
     }
-}
-
-// Removes the variable of a key.
-fn remove(bytes: &mut [u8], guid: &Guid, name: &[u16])
-    requires size { length bytes.old ≡ volatile_size }
-    requires tidy { IsTidy (store_region Volatile bytes.old) }
-    requires there { IsSome (lookup (is_at (key_cmp (key_of guid.now name.now))) (map_in Volatile bytes.old)) }
-    ensures edited { IsEdited Volatile (Removing guid.now name.entry) bytes.old bytes.new }
-    ensures tidy { IsTidy (store_region Volatile bytes.new) }
-{
-    remove_within(Store::Volatile, bytes, guid, name);
 }
 
 /// The volatile store: a region of 65,536 bytes in memory, compacted where a record doesn't fit behind the others. It takes memory when it is
@@ -81,6 +72,8 @@ fn remove(bytes: &mut [u8], guid: &Guid, name: &[u16])
 pub struct VolatileStore {
     bytes: Vec<u8>,
     scratch: Vec<u8>,
+    /// The offset behind the records.
+    tail: u32,
 }
 
 impl Model for VolatileStore {
@@ -92,13 +85,14 @@ impl Model for VolatileStore {
     ghost use Rattle.var_region.specs.Written.{fits_behind};
     ghost use Rattle.var_types.specs.declared.store.Store.TheVariants.{Volatile};
     ghost use Rattle.var_types.specs.Layout.{volatile_size};
+    ghost use Rattle.var_types.specs.Region.{tail_offset};
     ghost use Rattle.var_types.specs.Stores.{store_region};
 
     ghost Value = { List ℕ };
 
     ghost view = { λ s. s.bytes.items };
 
-    ghost invariant = { λ s. (length s.bytes.items ≡ volatile_size) × (length s.scratch.items ≡ volatile_size) × IsTidy (store_region Volatile s.bytes.items) };
+    ghost invariant = { λ s. (length s.bytes.items ≡ volatile_size) × (length s.scratch.items ≡ volatile_size) × IsTidy (store_region Volatile s.bytes.items) × (s.tail ≡ tail_offset (store_region Volatile s.bytes.items)) };
 }
 
 impl VolatileStore {
@@ -109,7 +103,12 @@ impl VolatileStore {
         let mut bytes = vec![in alloc; 0u8; VOLATILE_BYTES]?;
         let scratch = vec![in alloc; 0u8; VOLATILE_BYTES]?;
         write_blank(&mut bytes);
-        Ok(VolatileStore { bytes, scratch })
+        let tail = tail_of(&bytes);
+        Ok(VolatileStore {
+            bytes,
+            scratch,
+            tail,
+        })
     }
 
     /// Its bytes, its header included.
@@ -128,11 +127,8 @@ impl VolatileStore {
         ensures within { AreWithin result (length self.now) }
     {
         match edit {
-            Edit::Put(new) => put_spans(Store::Volatile, &self.bytes, new),
-            Edit::Remove { guid, name } => {
-                let [first, second] = remove_spans(Store::Volatile, &self.bytes, guid, name);
-                [first, second, NOWHERE]
-            }
+            Edit::Put(new) => put_spans(&self.bytes, self.tail, new),
+            Edit::Remove { guid, name } => remove_spans(&self.bytes, guid, name),
         }
     }
 
@@ -141,11 +137,11 @@ impl VolatileStore {
         requires { CanPut Volatile self.old new.now }
         ensures { IsEdited Volatile (Putting new.now) self.old self.new }
     {
-        if region_in(Store::Volatile, &self.bytes).fits(size_of(new)) {
-            put_behind(&mut self.bytes, new);
+        if fits(&self.bytes, self.tail, new) {
+            self.tail = put_behind(&mut self.bytes, self.tail, new);
             return;
         }
-        put_compacted(&self.bytes, new, &mut self.scratch);
+        self.tail = put_compacted(&self.bytes, new, &mut self.scratch);
         swap(&mut self.bytes, &mut self.scratch);
     }
 

@@ -18,3 +18,6 @@ returns-in-Err-clause-edited c = absurd (c.requires.can.room c.in-Err.field-0.ne
 
 pub returns-in-Err-clause-tidy : goal.returns-in-Err-clause-tidy
 returns-in-Err-clause-tidy c = absurd (c.requires.can.room c.in-Err.field-0.need c.in-Err.field-0.have c.in-Err.ensures.room)
+
+pub returns-in-Err-clause-tail : goal.returns-in-Err-clause-tail
+returns-in-Err-clause-tail c = absurd (c.requires.can.room c.in-Err.field-0.need c.in-Err.field-0.have c.in-Err.ensures.room)

@@ -8,6 +8,7 @@ use Rattle.mm_writer.specs.Edit.{MayEdit, edited}
 use Rattle.mm_writer.specs.Engine.{side_by}
 use Rattle.mm_writer.specs.Outcome.{IsAnswered, IsKeptBy}
 use Rattle.mm_writer.specs.Side.{Side, state_of}
+use Rattle.mm_writer.specs.Stands.{IsTotalWithout}
 use Rattle.set_rules.specs.RoomTotals.{IsTotalOf}
 use Rattle.var_types.specs.declared.call.Call.TheVariants.{Set as SetCalled}
 use Rattle.var_types.specs.declared.reply.Reply.TheVariants.{Set as SetReplied}
@@ -22,7 +23,7 @@ change_volatile-requires-clause-can g c =
     let e = c.self.inside in
     let side : Side = side_by e.opened.value.1.0 e.store.1.0 e.volatile e.books in
     let may = subst (λ v. MayEdit (state_of v.1.1) Volatile c.args.edit.now) (sym c.self.view_is) c.requires.may in
-    let sizes = subst (λ v. HaveSizes v.1.1.stores) (sym c.self.view_is) c.view.ensures.sizes in
+    let sizes = subst (λ v. HaveSizes v.1.1.stores) (sym c.self.view_is) c.view-view.ensures.sizes in
     can_edit side.stores (state_of side) c.self.invariant.consistent.sound.ordered (means_now side c.self.invariant.consistent) sizes Volatile
     c.args.edit.now may
 
@@ -39,7 +40,8 @@ invariant_of-self g c =
     c.requires.step in
     let rooms =
     subst (λ v. IsTotalOf c.totals_after-totals.result (edited edit (state_of v.1.1).variables)) (sym c.self.view_is)
-    (c.totals_after-totals.ensures (state_of c.args.self.now.1.1) c.view.ensures.stands c.requires.may) in
+    (c.totals_after-totals.ensures (state_of c.args.self.now.1.1) Volatile c.view-view.ensures.stands.ordered
+    (subst (λ key. IsTotalWithout c.args.rest key (state_of c.args.self.now.1.1).variables) (sym c.requires.key) c.requires.rest) c.requires.may) in
     let done = c.in-Ok.ensures.done in
     kept_edited side next e.totals c.totals_after-totals.result e.policies c.self.invariant Volatile edit c.change_volatile.new.volatile
     c.args.caller.processor c.args.caller.index call e.books c.change_volatile.new.books may is done.edited.map refl refl done.enters
@@ -74,7 +76,7 @@ returns-in-Ok-clause-kept g c = λ _ sure.
     let is =
     subst (λ v. set_step (state_of v.1.1) call ≡ (Changed, changed (state_of v.1.1) (edited edit (state_of v.1.1).variables))) (sym c.self.view_is)
     c.requires.step in
-    let keeps = subst (λ v. v.1.0 ≡ None → IfSome (g.F.Flash.holds v.0) (IsKeptBy v.1.1)) (sym c.self.view_is) c.view.ensures.kept in
+    let keeps = subst (λ v. v.1.0 ≡ None → IfSome (g.F.Flash.holds v.0) (IsKeptBy v.1.1)) (sym c.self.view_is) c.view-view.ensures.kept in
     let done = c.in-Ok.ensures.done in
     kept_volatile side next edit c.self.invariant.consistent may
     (variables_next side next e.totals c.totals_after-totals.result e.policies c.self.invariant Volatile edit c.change_volatile.new.volatile
@@ -86,4 +88,4 @@ pub returns-in-Ok-clause-ended : goal.returns-in-Ok-clause-ended
 returns-in-Ok-clause-ended g c = λ _ change.
     let edit = c.args.edit.now in
     let state = state_of c.args.self.now.1.1 in
-    absurd (not_non_volatile state c.view.ensures.stands.ordered c.args.call.now edit c.requires.may c.requires.key c.requires.step change)
+    absurd (not_non_volatile state c.view-view.ensures.stands.ordered c.args.call.now edit c.requires.may c.requires.key c.requires.step change)

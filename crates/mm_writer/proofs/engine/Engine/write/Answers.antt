@@ -1,30 +1,18 @@
-use Rattle.std.proofs.Common.{true, List, ℕ, ◌++◌, drop, ap, ◌∙◌}
-use Rattle.mm_writer.proofs.Decided.{bytes_alone, bytes_joined, may_write, write_within}
+use Rattle.std.proofs.Common.{false, drop, refl}
+use Rattle.mm_writer.proofs.Decided.{bytes_alone, may_write, write_within}
 use Rattle.mm_writer.specs.Side.{state_of}
-use Rattle.var_types.specs.Reading.{kept_bytes, set_key}
+use Rattle.var_types.specs.Reading.{set_key}
 use Rattle.var_types.specs.State.{stored_at}
 use Rattle.mm_writer.proofs.engine.Engine.write.Goals as goal
 
 pub payload_of-payload-requires : goal.payload_of-payload-requires
 payload_of-payload-requires g c =
-    write_within c.decisions_decide.ensures (state_of c.args.self.now.1.1) c.args.call.now c.args.attributes c.args.stamp c.args.skip c.args.append
-    c.requires
+    write_within c.decisions_decide.ensures (state_of c.args.self.now.1.1) c.args.call.now c.args.attributes c.args.stamp c.args.skip false c.requires.write
 
-pub put-requires : goal.put-requires
-put-requires g c =
+pub put-requires-clause-may : goal.put-requires-clause-may
+put-requires-clause-may g c =
     let state = state_of c.args.self.now.1.1 in
     let call = c.args.call.now in
-    may_write c.decisions_decide.ensures state call c.args.attributes c.args.stamp c.args.skip c.args.append c.payload_of-payload.result.now c.requires
+    may_write c.decisions_decide.ensures state call c.args.attributes c.args.stamp c.args.skip false c.payload_of-payload.result.now c.requires.write
     c.payload_of-payload.ensures.attributes
-    (bytes_alone c.args.append (stored_at state (set_key call)) (drop c.args.skip call.bytes) c.payload_of-payload.result.now c.if-not-append.true
-    c.payload_of-payload.ensures.payload)
-
-pub put-requires-in-Ok : goal.put-requires-in-Ok
-put-requires-in-Ok g c =
-    let state = state_of c.args.self.now.1.1 in
-    let call = c.args.call.now in
-    let found = stored_at state (set_key call) in
-    may_write c.decisions_decide.ensures state call c.args.attributes c.args.stamp c.args.skip c.args.append c.as_slice.result.now c.requires
-    c.payload_of-payload.ensures.attributes
-    (bytes_joined c.args.append found (drop c.args.skip call.bytes) c.as_slice.result.now c.if-not-append.false
-    (c.as_slice.ensures.items ∙ c.in-Ok.ensures.bytes ∙ ap (λ (payload : List ℕ). kept_bytes true found ++ payload) c.payload_of-payload.ensures.payload))
+    (bytes_alone false (stored_at state (set_key call)) (drop c.args.skip call.bytes) c.payload_of-payload.result.now refl c.payload_of-payload.ensures.payload)

@@ -1,5 +1,5 @@
 -- Processors with another point, or another answered call, at one of them.
-use Rattle.std.proofs.Common.{◌≡◌, ℕ, zero, suc, List, [], ◌∷◌, ◌++◌, length, Some, refl, sym, ap, ◌∙◌}
+use Rattle.std.proofs.Common.{◌≡◌, ℕ, zero, suc, ◌≤◌, None, arith, List, [], ◌∷◌, ◌++◌, length, Some, refl, sym, ap, ◌∙◌}
 use Rattle.std.specs.Prelude.{slice_get, slice_set}
 use Rattle.var_types.specs.declared.answered.Route.{Route}
 use Rattle.var_types.specs.declared.call.Call.{Call}
@@ -29,6 +29,12 @@ pub twice_point : (ps : List Processor) (p : ℕ) (x y : Point) → with_point (
 twice_point [] p x y = refl
 twice_point (b ∷ ps) zero x y = refl
 twice_point (b ∷ ps) (suc p) x y = ap (λ (qs : List Processor). b ∷ qs) (twice_point ps p x y)
+
+-- behind the last processor there is no point
+pub no_point : (ps : List Processor) (p : ℕ) → length ps ≤ p → point_at ps p ≡ None
+no_point [] p h = refl
+no_point (a ∷ rest) zero h = absurd (omega arith)
+no_point (a ∷ rest) (suc p) h = no_point rest p (omega arith)
 
 pub same_point : (ps : List Processor) (p : ℕ) (x : Point) → point_at ps p ≡ Some x → with_point ps p x ≡ ps
 same_point [] p x h = refl

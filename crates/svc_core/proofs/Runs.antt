@@ -14,7 +14,7 @@ happen_more (e ∷ before) event v mid next happen one =
 
 module _ (old s next : Scene) (before : List Event) (event : Event) (ran : Happen (powered old) before (powered s)) where
   pub ran_moved : IsStepped s event Moved next → Happen (powered old) (before ++ event ∷ []) (powered next)
-  ran_moved step = happen_more before event (powered old) (powered s) (powered next) ran step.1
+  ran_moved step = happen_more before event (powered old) (powered s) (powered next) ran step.1.1
 
   pub ran_still : IsStepped s event Still next → Happen (powered old) (before ++ event ∷ []) (powered next)
   ran_still step =

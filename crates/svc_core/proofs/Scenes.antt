@@ -1,5 +1,5 @@
 -- A step of a scene: what it gives, and that what holds of a world's parts holds behind it.
-use Rattle.std.proofs.Common.{◌≡◌, ◌≢◌, ℕ, ◌<◌, Bool, true, false, List, [], ◌∷◌, length, Option, Some, None, refl, sym, ap, subst, ◌∙◌}
+use Rattle.std.proofs.Common.{◌≡◌, ◌≢◌, ℕ, ◌<◌, Bool, true, false, List, [], ◌∷◌, length, Option, Some, None, refl, sym, ap, subst, ◌∙◌, ⊎_elim}
 use Rattle.std.specs.Prelude.{slice_get, slice_set, IfSome, IsSome}
 use Rattle.flash_dev.specs.declared.fault_plan.Torn.{Torn}
 use Rattle.var_trace.specs.declared.change.Change.{Change}
@@ -18,12 +18,12 @@ use Rattle.svc_core.specs.declared.point.Point.TheVariants.{Decide}
 use Rattle.svc_core.specs.declared.standing.Standing.{Standing}
 use Rattle.svc_core.specs.declared.standing.Standing.TheVariants.{Running, PowerLost, GivenUp, Spoiled}
 use Rattle.svc_core.specs.Events as events
-use Rattle.svc_core.specs.Events.{Happens, IsStill, IsStillFor, IsStuck, Powered}
+use Rattle.svc_core.specs.Events.{Happens, IsStill, IsStillFor, IsStuck, IsToEnter, Powered}
 use Rattle.svc_core.specs.Invariant.{HasCall, IsConsistent}
-use Rattle.svc_core.specs.Laws.{Holds, IsLegalWorld}
+use Rattle.svc_core.specs.Laws.{Holds, IsEnded, IsLegalWorld}
 use Rattle.svc_core.specs.Machine.{IsAdvance, IsClear, IsPowerLost, IsReady, IsStillOf, decided_by, limited, put_back, world_of}
 use Rattle.svc_core.specs.Plan.{IsOutcome, IsPlan, Plan}
-use Rattle.svc_core.specs.Power.{IsLeft, next_step, torn_by, world_left}
+use Rattle.svc_core.specs.Power.{IsLeft, Keeps, next_step, torn_by, world_left}
 use Rattle.svc_core.specs.Progress.{answered_at, call_at, point_at, with_point}
 use Rattle.svc_core.specs.Rows as row
 use Rattle.svc_core.specs.Rows.{Row}
@@ -33,7 +33,7 @@ use Rattle.svc_core.specs.World.{Processor, World}
 use Rattle.svc_core.specs.Writer.{Opening, Writer}
 
 -- no row changes the opening
-row_opening : (w : World) (p : ℕ) (a : Processor) (next : World) → Row w p a next → next.opening ≡ w.opening
+pub row_opening : (w : World) (p : ℕ) (a : Processor) (next : World) → Row w p a next → next.opening ≡ w.opening
 row_opening w p a _ (row.lock_free call calls at is reads free) = refl
 row_opening w p a _ (row.lock_taken call calls at is reads taken) = refl
 row_opening w p a _ (row.load_made at) = refl
@@ -133,19 +133,30 @@ module _ (standing : Standing) (opening : Opening) (own_now : Writer) (m : Machi
     pub go_clear : IfSome (point_at m.progress.processors p) (λ x. IsClear (call_at m.progress.processors p) m x)
     go_clear = clear opening own_now m p goer.0 consistent goer.1 (can.decided goer.0 there_too)
 
+  -- a processor that can move
+  moves_on : (p : ℕ) (a : Processor) → slice_get m.progress.processors p ≡ Some a → (IsStuck (world_of opening own_now m) a → ⊥)
+      → IsStill s.lost s.world (Step p) → ⊥
+  moves_on p a get goes still =
+      let there : slice_get s.world.processors p ≡ Some a = ap (λ (ps : List Processor). slice_get ps p) processors_are ∙ get in
+      let here : IsStillFor s.world (slice_get s.world.processors p) = subst (λ (b : Bool). IsStill b s.world (Step p)) live still in
+      goes (subst (λ (x : World). IsStuck x a) (sym world_is) (subst (IsStillFor s.world) there here))
+
   -- another scene of a row
   module _ (p : ℕ) (a : Processor) (other : Opening) (own_next : Writer) (next : Machine) (kept : other ≡ opening) (get : slice_get m.progress.processors p ≡ Some a)
       (taken : Row (world_of opening own_now m) p a (world_of opening own_next next)) where
     next_is : world_of opening own_next next ≡ world_of other (own_by standing own_next next) next
     next_is = λ i. world_of (sym kept i) (sym (own_kept standing own_next next over_is) i) next
 
-    pub moved_step : IsStepped s (Step p) Moved (scene_of standing other own_next next)
-    moved_step =
+    pub moved_step : (IsStuck (world_of opening own_now m) a → ⊥) → IsStepped s (Step p) Moved (scene_of standing other own_next next)
+    moved_step goes =
         let there : slice_get s.world.processors p ≡ Some a = ap (λ (ps : List Processor). slice_get ps p) processors_are ∙ get in
         let again : Row s.world p a (world_of opening own_next next) = subst (λ (x : World). Row x p a (world_of opening own_next next)) world_is taken in (
           over_is,
-          subst (Happens (powered s) (Step p)) (λ i. record { lost = sym lost_is i; world = next_is i })
-              (events.step p a (world_of opening own_next next) live there again),
+          (
+            moves_on p a get goes,
+            subst (Happens (powered s) (Step p)) (λ i. record { lost = sym lost_is i; world = next_is i })
+                (events.step p a (world_of opening own_next next) live there again),
+          ),
         )
 
     pub moved_holds : IsSceneOf standing other own_next next
@@ -164,7 +175,7 @@ module _ (standing : Standing) (opening : Opening) (own_now : Writer) (m : Machi
     gone = advance opening own_now (goer p can).0 (goer p can).1 (goes p can)
 
     pub gone_step : IsStepped s (Step p) Moved (scene_of standing opening own_now next)
-    gone_step = moved_step p (goer p can).0 opening own_now next refl (goer p can).1 gone
+    gone_step = moved_step p (goer p can).0 opening own_now next refl (goer p can).1 gone (goes p can)
 
     pub gone_holds : IsSceneOf standing opening own_now next
     gone_holds = moved_holds p (goer p can).0 opening own_now next refl (goer p can).1 gone
@@ -244,6 +255,12 @@ module _ (standing : Standing) (opening : Opening) (own_now : Writer) (m : Machi
           subst (λ (x : Opening). IsPlan x own_now p (length decider.0.answered) call plan own_next) (sym (limited_same opening m.progress.limit inv.limit))
           (subst (λ (n : ℕ). IsPlan opening own_now p n call plan own_next) (index_is ∙ index_get m.progress.processors p decider.0 decider.1) planned)
 
+      decider_goes : IsStuck (world_of opening own_now m) decider.0 → ⊥
+      decider_goes stuck =
+          ⊎_elim (λ (none : decider.0.calls ≡ []). let e : call ∷ first.0 ≡ [] = sym first.1 ∙ none in cc)
+          (λ (busy : (m.writer_lock ≢ 0) × IsToEnter decider.0.point decider.0.calls).
+          let here : IsToEnter Decide decider.0.calls = subst (λ (y : Point). IsToEnter y decider.0.calls) decides busy.1 in here) stuck
+
       abbrev RowTo : Point → Type 0
       RowTo y = Row (world_of opening own_now m) p decider.0 (world_of opening own_next (put_back m p y))
 
@@ -280,7 +297,7 @@ module _ (standing : Standing) (opening : Opening) (own_now : Writer) (m : Machi
 
       pub decided_step : (other : Opening) (next : Machine) → other ≡ opening → next ≡ put_back m p (decided_by m.made plan plan.change)
           → IsStepped s (Step p) Moved (scene_of standing other own_next next)
-      decided_step other next kept is = moved_step p decider.0 other own_next next kept decider.1 (decided_next next is)
+      decided_step other next kept is = moved_step p decider.0 other own_next next kept decider.1 (decided_next next is) decider_goes
 
       pub decided_holds : (other : Opening) (next : Machine) → other ≡ opening → next ≡ put_back m p (decided_by m.made plan plan.change)
           → IsSceneOf standing other own_next next
@@ -307,9 +324,12 @@ module _ (standing : Standing) (opening : Opening) (own_now : Writer) (m : Machi
         subst (λ (x : World). (next.flash ≡ torn_by torn (next_step x) x.writer.flash) × IsLeft x next.flash) world_is (lost.1 opening own_now)
         in (
           refl,
-          subst (Happens (powered s) (Power torn))
-              (λ i. record { lost = true; world = (ap (λ (x : World). world_left x next.flash) (sym world_is) ∙ sym left_is) i })
-              (events.power torn next.flash live both.0 both.1),
+          (
+            subst (λ (b : Bool). IsStill b s.world (Power torn)) live,
+            subst (Happens (powered s) (Power torn))
+                (λ i. record { lost = true; world = (ap (λ (x : World). world_left x next.flash) (sym world_is) ∙ sym left_is) i })
+                (events.power torn next.flash live both.0 both.1),
+          ),
         )
 
 -- the session of a scene is legal
@@ -317,3 +337,11 @@ pub scene_legal : (standing : Standing) (opening : Opening) (own_now : Writer) (
     → IsSceneOf standing opening own_now m → IsLegalWorld s.world
 scene_legal standing opening own_now m s view inv =
     subst (λ (x : Scene). IsLegalWorld x.world) view (legal (is_lost standing) (world_of opening (own_by standing own_now m) m) inv.holds)
+
+-- where power was lost, the flash keeps what it has to
+pub scene_keeps : (standing : Standing) (opening : Opening) (own_now : Writer) (m : Machine) (s : Scene) → scene_of standing opening own_now m ≡ s
+    → IsSceneOf standing opening own_now m → s.lost ≡ true → Keeps s.world s.world.writer.flash
+scene_keeps standing opening own_now m s view inv lost =
+    let e : is_lost standing ≡ true = ap (λ (x : Scene). x.lost) view ∙ lost in
+    let ended : IsEnded (world_of opening (own_by standing own_now m) m) = subst (λ (b : Bool). Holds b (world_of opening (own_by standing own_now m) m)) e inv.holds in
+    subst (λ (x : Scene). Keeps x.world x.world.writer.flash) view ended.keeps

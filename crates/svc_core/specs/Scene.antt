@@ -93,9 +93,13 @@ first_world opening image calls = record {
 abbrev pub IsSameButOwn : Scene → Powered → Type 0
 IsSameButOwn s v = (s.lost ≡ v.lost) × ((own : Writer) × s.world ≡ (let w : World = v.world in record w { writer = record w.writer { own = own } }))
 
+-- an event happens, and is none that changes nothing
+abbrev pub Moves : Powered → Event → Powered → Type 0
+Moves v event new = (IsStill v.lost v.world event → ⊥) × Happens v event new
+
 -- what a step of a world gives for an event
 abbrev pub IsStepped : Scene → Event → Stepped → Scene → Type 0
-IsStepped old event Moved new = (new.over ≡ false) × Happens (powered old) event (powered new)
+IsStepped old event Moved new = (new.over ≡ false) × Moves (powered old) event (powered new)
 IsStepped old event Still new = (old.over ≡ false) × IsStill old.lost old.world event × (new ≡ old)
 IsStepped old event OutOfMemory new = (new.over ≡ true) × IsSameButOwn new (powered old)
 

@@ -1,4 +1,4 @@
-ghost use Rattle.std.specs.Prelude.{◌≡◌, ◌≢◌, drop, length, slice_get};
+ghost use Rattle.std.specs.Prelude.{◌≡◌, ◌≢◌, ◌==◌, drop, length, slice_get};
 ghost use Rattle.std.specs.Option.{option_copied};
 
 use crate::FlashStep;
@@ -27,6 +27,20 @@ impl FlashSteps {
         ensures { result ≡ steps.items }
     {
         FlashSteps { steps, done: 0 }
+    }
+
+    /// How many they are.
+    pub fn len(&self) -> usize
+        ensures { result ≡ length self.now }
+    {
+        self.steps.len() - self.done
+    }
+
+    /// Whether none is left.
+    pub fn is_empty(&self) -> bool
+        ensures { result ≡ (length self.now == 0) }
+    {
+        self.len() == 0
     }
 
     /// The step that comes next.

@@ -35,7 +35,8 @@ impl Image {
     }
 
     pub(crate) fn as_slice(&self) -> &[u8]
-        ensures { result.now ≡ self.now }
+        ensures bytes { result.now ≡ self.now }
+        ensures size { length result.now ≡ image_size }
     {
         &self.bytes
     }

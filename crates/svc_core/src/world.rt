@@ -1,10 +1,13 @@
 ghost use Rattle.std.specs.Prelude.{◌≡◌, ◌≢◌, ◌<◌, ◌≤◌, true, false, length, map, All, IfOk, OnOk, Some};
+ghost use Rattle.std.specs.Option.{option_copied};
 ghost use Rattle.var_trace.specs.LegalSession.{IsLegalSoFar};
 ghost use Rattle.var_trace.specs.Session.{answers_of};
 ghost use Rattle.var_trace.specs.StoresAfter.{history_in};
+ghost use Rattle.var_types.specs.Layout.{image_size};
 ghost use Rattle.svc_core.specs.declared.event.Event.TheVariants as events;
 ghost use Rattle.svc_core.specs.declared.event.Stepped.TheVariants as stepped;
 ghost use Rattle.svc_core.specs.declared.point.Point.TheVariants as points;
+ghost use Rattle.svc_core.specs.Power.{Keeps};
 ghost use Rattle.svc_core.specs.Progress.{most_calls, point_at};
 ghost use Rattle.svc_core.specs.Scene.{CanGo, IsOpening, IsRun, IsStepped, first_world, own_at_first};
 
@@ -167,9 +170,22 @@ impl<W: Writes> World<W> {
         self.machine.progress.session()
     }
 
+    /// Where a processor stands in its call, if the world has it.
+    pub fn point(&self, processor: usize) -> Option<&Point>
+        ensures { option_copied result ≡ point_at self.now.world.processors processor }
+    {
+        if processor < self.machine.progress.len() {
+            Some(self.machine.progress.point(processor))
+        } else {
+            None
+        }
+    }
+
     /// The bytes of the flash now; behind a loss of power those that it left.
     pub fn image(&self) -> &[u8]
-        ensures { result.now ≡ self.now.world.writer.flash }
+        ensures bytes { result.now ≡ self.now.world.writer.flash }
+        ensures size { length result.now ≡ image_size }
+        ensures keeps { self.now.lost ≡ true → Keeps self.now.world result.now }
     {
         self.machine.flash.as_slice()
     }

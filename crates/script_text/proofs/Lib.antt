@@ -1,7 +1,6 @@
 pub mod DigitLemmas
 pub mod NameLemmas
 pub mod LineLemmas
-pub mod ScriptProcessors
 pub mod WordLemmas
 pub mod HexTexts
 pub mod NumberTexts
@@ -10,3 +9,9 @@ pub mod CallTexts
 pub mod PartLemmas
 pub mod WordCounts
 pub mod FirstLines
+pub mod Processors
+pub mod LineProcessors
+pub mod FewCalls
+pub mod ScheduleBegins
+pub mod CallLines
+pub mod Plays

@@ -1,6 +1,7 @@
 -- Lines with another number of words than their verb has.
-use Rattle.std.proofs.Common.{◌≡◌, ◌≢◌, ℕ, ◌<◌, List, [], ◌∷◌, length, Err, refl, arith}
+use Rattle.std.proofs.Common.{◌≡◌, ◌≢◌, ℕ, ◌<◌, List, [], ◌∷◌, length, false, Err, refl, arith}
 use Rattle.script_text.specs.declared.line_reason.LineReason.TheVariants as reason
+use Rattle.script_text.specs.Schedule.{is_schedule_word, schedule_words}
 use Rattle.script_text.specs.Words.{get_words, next_words, policy_words, register_words, set_words}
 
 pub other_get_words : (words : List (List ℕ)) → length words ≢ 3 → get_words words ≡ Err reason.Words
@@ -38,3 +39,15 @@ unfolding policy_words
 other_policy_words [] other = refl
 other_policy_words (a ∷ []) other = absurd (other refl)
 other_policy_words (a ∷ b ∷ rest) other = refl
+
+pub other_schedule_words : (words : List (List ℕ)) → words ≢ [] → length words ≢ 2 → schedule_words words ≡ Err reason.Schedule
+unfolding schedule_words
+other_schedule_words [] some other = absurd (some refl)
+other_schedule_words (a ∷ []) some other = refl
+other_schedule_words (a ∷ b ∷ []) some other = absurd (other refl)
+other_schedule_words (a ∷ b ∷ c ∷ rest) some other = refl
+
+pub no_schedule_word : (words : List (List ℕ)) → length words ≢ 1 → is_schedule_word words ≡ false
+no_schedule_word [] other = refl
+no_schedule_word (a ∷ []) other = absurd (other refl)
+no_schedule_word (a ∷ b ∷ rest) other = refl

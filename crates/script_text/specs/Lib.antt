@@ -10,3 +10,8 @@ pub mod Gives
 pub mod GivesLine
 pub mod ReadBack
 pub mod FirstLine
+pub mod Schedule
+pub mod GivesPlay
+pub mod CallLines
+pub mod TurnRead
+pub mod Reached

@@ -1,4 +1,4 @@
-use Rattle.std.specs.Prelude.{◌≡◌, ℕ, ◌^◌, ◌<◌, ◌≤◌, List, [], ◌∷◌, ◌++◌, length, codes, Ok}
+use Rattle.std.specs.Prelude.{◌≡◌, ℕ, ◌+◌, ◌^◌, ◌<◌, ◌≤◌, List, [], ◌∷◌, ◌++◌, length, codes, Ok}
 use Rattle.var_types.specs.declared.call.Call.{Call}
 use Rattle.var_types.specs.declared.call.Call.TheVariants as call
 use Rattle.var_types.specs.declared.call.SetCall.{SetCall}
@@ -8,7 +8,7 @@ use Rattle.var_types.specs.declared.policy_call.PolicyCall.TheVariants as policy
 use Rattle.var_types.specs.Guid.{IsGuid}
 use Rattle.var_types.specs.Layout.{most_units}
 use Rattle.var_types.specs.Values.{AreBytes, AreUnits}
-use Rattle.script_text.specs.Script.{most_script_bytes, script_of}
+use Rattle.script_text.specs.Script.{most_script_bytes, script_of, with_call}
 use Rattle.script_text.specs.Texts.{call_text}
 
 -- the units of a call's name: no more than it may have, each of 16 bits
@@ -42,17 +42,22 @@ IsReadable (call.Set c) = IsReadableSet c
 IsReadable (call.Policy c) = IsReadablePolicy c
 IsReadable call.ExitBoot = Unit {0}
 
--- the line of a call of processor 0, without its line end
-abbrev pub line_of : Call → List ℕ
-line_of call = codes "0 " ++ call_text call
+-- the word of a processor's number: its digit
+abbrev pub processor_word : ℕ → List ℕ
+processor_word processor = (48 + processor) ∷ []
 
--- the line of a call reads back as the call (this project's own)
+-- the line of a processor's call, without its line end
+abbrev pub line_of : ℕ → Call → List ℕ
+line_of processor call = processor_word processor ++ codes " " ++ call_text call
+
+-- the line of a call of processor 0 to 7 reads back as the call (this project's own)
 abbrev pub CallsReadBack : Type 0
 CallsReadBack =
-    (call : Call) → IsReadable call → length (line_of call) ≤ most_script_bytes → script_of (line_of call) ≡ Ok ((call ∷ []) ∷ [])
+    (processor : ℕ) (call : Call) → processor < 8 → IsReadable call → length (line_of processor call) ≤ most_script_bytes
+    → script_of (line_of processor call) ≡ Ok (with_call ([] ∷ []) processor call)
 
--- so does the line with its line end (this project's own)
+-- so does the line with its line end
 abbrev pub EndedCallsReadBack : Type 0
 EndedCallsReadBack =
-    (call : Call) → IsReadable call → length (line_of call ++ 10 ∷ []) ≤ most_script_bytes
-    → script_of (line_of call ++ 10 ∷ []) ≡ Ok ((call ∷ []) ∷ [])
+    (processor : ℕ) (call : Call) → processor < 8 → IsReadable call → length (line_of processor call ++ 10 ∷ []) ≤ most_script_bytes
+    → script_of (line_of processor call ++ 10 ∷ []) ≡ Ok (with_call ([] ∷ []) processor call)

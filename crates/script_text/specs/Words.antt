@@ -141,21 +141,17 @@ words_behind verb.Enabled rest = bare_words (call.Policy policy.Enabled) rest
 words_behind verb.Policy rest = policy_words rest
 words_behind verb.ExitBoot rest = bare_words call.ExitBoot rest
 
--- the words behind a verb; so far, processor 0 alone makes calls
-unfoldable pub verb_words : ℕ → Verb → List (List ℕ) → Result Call LineReason
-verb_words processor v rest = if processor == 0 then words_behind v rest else Err reason.Later
-
 -- the words behind the processor's number
-unfoldable pub call_words : ℕ → List (List ℕ) → Result Call LineReason
-call_words processor [] = Err reason.Verb
-call_words processor (word ∷ rest) = verb_of word >>= λ v. verb_words processor v rest
+unfoldable pub call_words : List (List ℕ) → Result Call LineReason
+call_words [] = Err reason.Verb
+call_words (word ∷ rest) = verb_of word >>= λ v. words_behind v rest
 
 -- the call of a line's words with its processor; a line without words has none
 unfoldable pub words_call : List (List ℕ) → Result (Option (ℕ × Call)) LineReason
 words_call [] = Ok None
 words_call (word ∷ rest) = do
   processor ← processor_of word
-  call ← call_words processor rest
+  call ← call_words rest
   Ok (Some (processor, call))
 
 -- the call of a line with its processor, if it has one, or the first reason to refuse it (this project's own)

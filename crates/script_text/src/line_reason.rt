@@ -9,8 +9,6 @@ pub enum LineReason {
     Processor,
     #[error("the second word is no verb")]
     Verb,
-    #[error("the line is of a form that is not read yet")]
-    Later,
     #[error("the number of words is wrong")]
     Words,
     #[error("a word is no GUID")]
@@ -23,4 +21,6 @@ pub enum LineReason {
     Hex,
     #[error("a word is no verdict")]
     Verdict,
+    #[error("the line is no line of a schedule")]
+    Schedule,
 }

@@ -81,8 +81,8 @@ fn without_return(line: &[u8]) -> &[u8]
     }
 }
 
-// The first line of a text, and the text behind it.
-fn first_line(text: &[u8]) -> (&[u8], &[u8])
+/// The first line of a text, and the text behind it.
+pub fn first_line(text: &[u8]) -> (&[u8], &[u8])
     requires { 0 < length text.now }
     ensures lines { lines text.now ≡ result.0.now ∷ lines result.1.now }
     ensures shorter { length result.1.now < length text.now }

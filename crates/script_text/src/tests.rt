@@ -19,14 +19,12 @@ fn spelled(rt: &HostRuntime, text: &[u8]) -> Result<Vec<u8>, Fail> {
     Ok(all)
 }
 
-// The texts of the calls of the processors, each with a line feed behind it.
-fn texts_of(rt: &HostRuntime, script: Script) -> Result<Vec<u8>, Fail> {
+// The texts of calls, each with a line feed behind it.
+fn texts_of(rt: &HostRuntime, calls: &[Call]) -> Result<Vec<u8>, Fail> {
     let mut all = TextBuffer::new(rt.alloc());
-    for calls in &script.into_processors() {
-        for call in calls {
-            write_call(call, &mut all);
-            all.put(b"\n");
-        }
+    for call in calls {
+        write_call(call, &mut all);
+        all.put(b"\n");
     }
     Ok(all.finish()?.into_vec())
 }
@@ -78,10 +76,54 @@ fn reads(rt: HostRuntime) -> Result<(), Fail> {
         ),
     ];
     for (text, want) in table {
-        let script = read_script(rt.alloc(), &spelled(&rt, text)?)?;
-        assert_eq!(rt; script.processors(), 1);
-        let texts = texts_of(&rt, script)?;
-        assert_eq!(rt; texts.as_slice(), spelled(&rt, want)?.as_slice());
+        let script = read_script(rt.alloc(), &spelled(&rt, text)?)?.into_processors();
+        assert_eq!(rt; script.len(), 1);
+        for calls in &script {
+            let texts = texts_of(&rt, calls)?;
+            assert_eq!(rt; texts.as_slice(), spelled(&rt, want)?.as_slice());
+        }
+    }
+    Ok(())
+}
+
+// Each processor's calls, by the texts of its calls.
+const PROCESSORS: [(&[u8], &[&[u8]]); 8] = [
+    (b"", &[b""]),
+    (b"0 lock\n", &[b"lock\n"]),
+    (b"1 lock\n", &[b"", b"lock\n"]),
+    (b"7 lock", &[b"", b"", b"", b"", b"", b"", b"", b"lock\n"]),
+    (
+        b"3 lock\n0 exitboot\n# 5 lock\n3 disable\n",
+        &[b"exitboot\n", b"", b"", b"lock\ndisable\n"],
+    ),
+    (b"2 lock\n1 lock\n", &[b"", b"lock\n", b"lock\n"]),
+    (
+        b"1 set G A 6 01 bad\n\t1 get G A 9\n1 next G - 9",
+        &[b"", b"set G A 0x00000006 01 bad\nget G A 9\nnext G - 9\n"],
+    ),
+    (
+        b"6 register 00\n4 policy 0\n5 enabled\n4 lock",
+        &[
+            b"",
+            b"",
+            b"",
+            b"",
+            b"policy 0\nlock\n",
+            b"enabled\n",
+            b"register 00\n",
+        ],
+    ),
+];
+
+#[test]
+fn reads_each_processor(rt: HostRuntime) -> Result<(), Fail> {
+    for (text, want) in PROCESSORS {
+        let script = read_script(rt.alloc(), &spelled(&rt, text)?)?.into_processors();
+        assert_eq!(rt; script.len(), want.len());
+        for (calls, text) in script.iter().zip(want) {
+            let texts = texts_of(&rt, calls)?;
+            assert_eq!(rt; texts.as_slice(), spelled(&rt, text)?.as_slice());
+        }
     }
     Ok(())
 }
@@ -99,7 +141,7 @@ fn refuses(rt: &HostRuntime, reason: LineReason, lines: &[&[u8]]) -> Result<bool
 
 #[test]
 fn refuses_a_line_by_its_front(rt: HostRuntime) -> Result<(), Fail> {
-    let table: [(LineReason, &[&[u8]]); 4] = [
+    let table: [(LineReason, &[&[u8]]); 3] = [
         (
             LineReason::Text,
             &[
@@ -112,24 +154,20 @@ fn refuses_a_line_by_its_front(rt: HostRuntime) -> Result<(), Fail> {
         ),
         (
             LineReason::Processor,
-            &[b"x get G A 1", b"8 get", b"9 lock", b"00 get", b"- fly"],
+            &[
+                b"x get G A 1",
+                b"8 get",
+                b"9 lock",
+                b"00 get",
+                b"- fly",
+                b"schedule",
+                b" schedule\t",
+                b"schedule now",
+            ],
         ),
         (
             LineReason::Verb,
             &[b"0 fly", b"0", b"1 fly", b"7", b"0 GET G A 1"],
-        ),
-        (
-            LineReason::Later,
-            &[
-                b"1 get G A 9",
-                b"1 next G A 9",
-                b"7 set x",
-                b"1 register",
-                b"2 lock now",
-                b"7 policy x",
-                b"1 exitboot",
-                b"7 exitboot now",
-            ],
         ),
     ];
     for (reason, lines) in table {
@@ -221,7 +259,8 @@ fn refuses_a_line_by_its_words(rt: HostRuntime) -> Result<(), Fail> {
 
 #[test]
 fn numbers_lines_from_one(rt: HostRuntime) {
-    let table: [(u32, LineReason, &[u8]); 4] = [
+    let table: [(u32, LineReason, &[u8]); 5] = [
+        (2, LineReason::Processor, b"7 lock\nschedule\n7 end\n"),
         (1, LineReason::Verb, b"0 fly\n8\n"),
         (2, LineReason::Processor, b"# 8\n8\n0 fly\n"),
         (4, LineReason::Verb, b"\n# x\r\n \n0 fly\n"),
@@ -231,6 +270,37 @@ fn numbers_lines_from_one(rt: HostRuntime) {
         let fault = read_script(rt.alloc(), text).err();
         assert_eq!(rt; fault, Some(ScriptFault::Line { number, reason }));
     }
+}
+
+// A text of 20,000 calls of processor 5, and what follows it.
+fn calls_of_five(rt: &HostRuntime, behind: &[u8]) -> Result<Vec<u8>, Fail> {
+    let mut all = Vec::new(rt.alloc());
+    for _ in 0..20_000 {
+        all.extend_from_slice(b"5 lock\n")?;
+    }
+    all.extend_from_slice(behind)?;
+    Ok(all)
+}
+
+#[test]
+fn keeps_the_limit_of_each_processor(rt: HostRuntime) -> Result<(), Fail> {
+    let script = read_script(
+        rt.alloc(),
+        &calls_of_five(&rt, b"0 lock\n7 lock")?,
+    )?.into_processors();
+    assert_eq!(rt; script.len(), 8);
+    for (calls, want) in script.iter().zip([1, 0, 0, 0, 0, 20_000, 0, 1]) {
+        assert_eq!(rt; calls.len(), want);
+    }
+    let text = calls_of_five(&rt, b"0 lock\n5 lock\n8")?;
+    let fault = ScriptFault::TooManyCalls {
+        processor: 5,
+        limit: 20_000,
+    };
+    assert_eq!(rt; read_script(rt.alloc(), &text).err(), Some(fault));
+    let fault = PlayFault::Script(fault);
+    assert_eq!(rt; read_play(rt.alloc(), &text).err(), Some(fault));
+    Ok(())
 }
 
 // A text of 20,000 calls, and what follows it.

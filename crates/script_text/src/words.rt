@@ -1,7 +1,7 @@
 ghost use Rattle.std.specs.Prelude.{◌≡◌, ◌≢◌, ◌<◌, [], ◌∷◌, length, MatchOption, true, false};
 ghost use Rattle.script_text.specs.GivesLine.{GivesLine};
 ghost use Rattle.script_text.specs.Lines.{is_comment, is_text, words_of};
-ghost use Rattle.script_text.specs.Words.{last_verdict, verb_of, guid_word, verdict_of, get_call, next_call, set_call, get_words, next_words, set_words, register_call, register_words, policy_call, policy_words, bare_words, words_behind, verb_words, call_words, words_call, line_call};
+ghost use Rattle.script_text.specs.Words.{last_verdict, verb_of, guid_word, verdict_of, get_call, next_call, set_call, get_words, next_words, set_words, register_call, register_words, policy_call, policy_words, bare_words, words_behind, call_words, words_call, line_call};
 
 use crate::line_fault::LineFault;
 use crate::lines::{first_word, is_comment, is_wordless};
@@ -205,8 +205,8 @@ fn set_words(alloc: Global, line: &[u8]) -> Result<Call, LineFault>
     }
 }
 
-// The word of a line, if it is one.
-fn one_word(line: &[u8]) -> Option<&[u8]>
+/// The word of a line, if it is one.
+pub fn one_word(line: &[u8]) -> Option<&[u8]>
     ensures { MatchOption result (length (words_of line.now) ≢ 1) (λ word. words_of line.now ≡ word.now ∷ []) }
 {
     let (word, rest) = first_word(line)?;
@@ -276,26 +276,15 @@ fn words_behind(alloc: Global, verb: Verb, rest: &[u8]) -> Result<Call, LineFaul
     }
 }
 
-#[tactic(auto, unfolding(crate::specs::Words::verb_words))]
-fn verb_words(alloc: Global, processor: u8, verb: Verb, rest: &[u8]) -> Result<Call, LineFault>
-    ensures { GivesLine result (verb_words processor verb (words_of rest.now)) }
-{
-    if processor == 0 {
-        words_behind(alloc, verb, rest)
-    } else {
-        Err(LineFault::Reason(LineReason::Later))
-    }
-}
-
 #[tactic(auto, unfolding(crate::specs::Words::call_words))]
-fn call_words(alloc: Global, processor: u8, line: &[u8]) -> Result<Call, LineFault>
-    ensures { GivesLine result (call_words processor (words_of line.now)) }
+fn call_words(alloc: Global, line: &[u8]) -> Result<Call, LineFault>
+    ensures { GivesLine result (call_words (words_of line.now)) }
 {
     match first_word(line) {
         None => Err(LineFault::Reason(LineReason::Verb)),
         Some((word, rest)) => {
             let verb = verb_of(word)?;
-            verb_words(alloc, processor, verb, rest)
+            words_behind(alloc, verb, rest)
         }
     }
 }
@@ -308,7 +297,7 @@ fn words_call(alloc: Global, line: &[u8]) -> Result<Option<(u8, Call)>, LineFaul
         None => Ok(None),
         Some((word, rest)) => {
             let processor = processor_of(word)?;
-            let call = call_words(alloc, processor, rest)?;
+            let call = call_words(alloc, rest)?;
             Ok(Some((processor, call)))
         }
     }

@@ -1,6 +1,0 @@
-use Rattle.script_text.proofs.ScriptProcessors.{line_call-processor}
-use Rattle.script_text.proofs.script.read_line.Goals as goal
-
-pub add_call-requires : goal.add_call-requires
-add_call-requires c =
-    line_call-processor c.args.line.now (c.in-Ok-Some.processor, c.in-Ok-Some.call) (rw c.in-Ok-Some.field-0-is at c.in-Ok-Some.ensures)

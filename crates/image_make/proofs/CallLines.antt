@@ -13,17 +13,17 @@ use Rattle.image_make.specs.Generated.{line_text, lines_text}
 use Rattle.image_make.proofs.Fronts.{lines_text-cons, lines_text-nil}
 
 -- the line of a call, and the lines behind it
-lines-line_text : (call : Call) (rest : List ℕ) → IsReadable call → lines (line_text call ++ rest) ≡ line_of call ∷ lines rest
+lines-line_text : (call : Call) (rest : List ℕ) → IsReadable call → lines (line_text call ++ rest) ≡ line_of 0 call ∷ lines rest
 lines-line_text call rest readable =
-    ap lines (append_assoc (line_of call) (10 ∷ []) rest) ∙ feed_line (line_of call) rest (is_text-line_of call readable)
+    ap lines (append_assoc (line_of 0 call) (10 ∷ []) rest) ∙ feed_line (line_of 0 call) rest (is_text-line_of 0 call (omega arith) readable)
 
 -- one line with a call, and lines behind it
 calls_from-line : (number : ℕ) (before : List Call) (call : Call) (rest : List (List ℕ)) → IsReadable call → length before < most_calls
-    → calls_from number (before ∷ []) (line_of call ∷ rest) ≡ calls_from (number + 1) ((before ++ call ∷ []) ∷ []) rest
+    → calls_from number (before ∷ []) (line_of 0 call ∷ rest) ≡ calls_from (number + 1) ((before ++ call ∷ []) ∷ []) rest
 unfolding calls_from
 calls_from-line number before call rest readable few =
     let room : leb most_calls (length before) ≡ false = lt-leb most_calls (length before) few in
-    rw (line_call-line_of call readable, room) refl
+    rw (line_call-line_of 0 call (omega arith) readable, room) refl
 
 -- no text has no lines
 no_lines : (number : ℕ) (before : List (List Call)) → calls_from number before (lines []) ≡ Ok before

@@ -5,3 +5,4 @@ pub mod Images
 pub mod Readable
 pub mod Sizes
 pub mod Scripts
+pub mod BlankImages

@@ -66,7 +66,7 @@ generated_calls number = first_calls number script_calls
 
 -- the line of a call of processor 0, with its line end
 abbrev pub line_text : Call → List ℕ
-line_text call = line_of call ++ 10 ∷ []
+line_text call = line_of 0 call ++ 10 ∷ []
 
 -- the lines of calls of processor 0
 unfoldable pub lines_text : List Call → List ℕ

@@ -1,7 +1,6 @@
 -- What an engine's answers come to.
-use Rattle.std.proofs.Common.{◌≡◌, ◌≢◌, inl, inr, ⊎_elim, ◌⊎◌, ℕ, Bool, true, false, List, [], Option, Some, None, Result, Ok, Err, IfOk, IfSome, length, refl, sym, ap, subst, ◌∙◌, true≢false}
-use Rattle.flash_dev.specs.Moments.{Stays}
-use Rattle.mm_writer.specs.Outcome.{Grows, IsAnswered, IsKeptBy, IsSetLeft, entry_after}
+use Rattle.std.proofs.Common.{◌≡◌, ◌≢◌, inl, ⊎_elim, ℕ, Bool, true, false, List, [], None, Result, Ok, Err, IfOk, length, refl, sym, ap, subst, ◌∙◌, true≢false}
+use Rattle.mm_writer.specs.Outcome.{IsAnswered, IsKeptBy, IsSetLeft}
 use Rattle.mm_writer.specs.Side.{Side, first_state, state_of}
 use Rattle.svc_core.specs.declared.flash_step.FlashStep.{FlashStep}
 use Rattle.svc_core.specs.FlashSteps.{after_steps}
@@ -24,15 +23,13 @@ use Rattle.var_types.specs.declared.reply.SetReply.TheVariants as set
 use Rattle.var_types.specs.declared.store.Store.TheVariants.{NonVolatile}
 use Rattle.var_types.specs.DeviceErrors.{is_device_error}
 use Rattle.var_types.specs.Get.{get_reply}
-use Rattle.var_types.specs.Kept.{kept}
 use Rattle.var_types.specs.Next.{next_reply}
-use Rattle.var_types.specs.Set.{set_step}
 use Rattle.var_types.specs.Step.{is_change, lacks_memory, step}
-use Rattle.var_types.specs.Stores.{map_in, part}
+use Rattle.var_types.specs.Stores.{map_in}
 use Rattle.var_types.specs.State.{start}
 use Rattle.play_steps.proofs.Marks.{HasNoShort, first_same, left_by_calls, not_short}
 use Rattle.play_steps.specs.EngineWriter.{EngineState, IsDone, IsReady, IsWhole, KeepsEither, opening_of}
-use Rattle.play_steps.specs.ListedFlash.{IsLeftIn, IsLeftSince, ListedState, StaysListed, bytes_of, moment_of}
+use Rattle.play_steps.specs.ListedFlash.{IsLeftIn, ListedState, StaysListed, bytes_of}
 
 -- what is true of a result's value, from three facts of it
 pub told_all : {A E : Type 0} (result : Result A E) (P Q R S : A → Type 0) → IfOk result P → IfOk result Q → IfOk result R

@@ -3,3 +3,7 @@ pub mod Marks
 pub mod Done
 pub mod Plans
 pub mod Openings
+pub mod BlankOpenings
+pub mod Ranks
+pub mod Schedules
+pub mod Plays

@@ -1,14 +1,14 @@
 -- A flash behind calls that stay lists from where it did before them.
-use Rattle.std.proofs.Common.{◌≡◌, inl, inr, ⊎_elim, ◌⊎◌, ℕ, zero, suc, ◌≤◌, ◌<◌, Bool, true, false, List, [], ◌∷◌, Option, Some, None, length, take, drop, refl, sym, ap, subst, ◌∙◌, arith, length-take, length-drop}
+use Rattle.std.proofs.Common.{◌≡◌, inl, inr, ⊎_elim, ◌⊎◌, ℕ, suc, ◌≤◌, ◌<◌, Bool, true, false, List, [], ◌∷◌, Option, Some, None, length, take, drop, refl, sym, ap, ◌∙◌, arith, length-take, length-drop}
 use Rattle.std.specs.Prelude.{slice_get}
 use Rattle.svc_core.specs.declared.flash_step.FlashStep.{FlashStep}
-use Rattle.svc_core.specs.FlashSteps.{IsStepLeft, Moments, after_step}
+use Rattle.svc_core.specs.FlashSteps.{Moments, after_step}
 use Rattle.var_types.specs.declared.work_state.WorkState.{WorkState}
 use Rattle.var_types.specs.declared.work_state.WorkState.TheVariants.{Clean, Pending, Unclean}
 use Rattle.var_types.specs.Kept.{chosen_part, content, spare, spare_volume, volume, work_area}
 use Rattle.var_types.specs.Layout.{headers_size, image_size, spare_offset, volume_size}
 use Rattle.var_types.specs.WorkArea.{is_blank, work_state}
-use Rattle.play_steps.specs.ListedFlash.{IsLeftIn, IsLeftSince, IsMark, ListedState, StaysListed, bytes_of}
+use Rattle.play_steps.specs.ListedFlash.{IsLeftIn, IsLeftSince, IsMark, ListedState, StaysListed}
 
 -- lists with the same elements are one
 same_elements : (xs ys : List ℕ) → ((at : ℕ) → slice_get xs at ≡ slice_get ys at) → xs ≡ ys

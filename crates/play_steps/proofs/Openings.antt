@@ -1,7 +1,6 @@
 -- An engine that was opened may begin a world.
-use Rattle.std.proofs.Common.{◌≡◌, ℕ, List, [], None, refl, sym, ap, subst, ◌∙◌, arith, ◌≤◌, length}
+use Rattle.std.proofs.Common.{◌≡◌, ℕ, List, [], None, sym, ap, subst, ◌∙◌, arith}
 use Rattle.mm_writer.specs.Engine.{opened_side}
-use Rattle.mm_writer.specs.Outcome.{IsKeptBy}
 use Rattle.mm_writer.specs.Side.{Side, first_state, state_of}
 use Rattle.play_steps.specs.EngineWriter.{EngineState, IsWhole, opening_of, own_of}
 use Rattle.play_steps.specs.ListedFlash.{bytes_of}
@@ -13,7 +12,7 @@ use Rattle.var_types.specs.declared.store.Store.TheVariants.{NonVolatile}
 use Rattle.var_types.specs.History.{run}
 use Rattle.var_types.specs.Kept.{kept, volume}
 use Rattle.var_types.specs.State.{State, start}
-use Rattle.var_types.specs.Stores.{Means, Stores, part}
+use Rattle.var_types.specs.Stores.{Stores, part}
 use Rattle.var_types.specs.Walk.{IsSound}
 
 module _ (e : EngineState) (before : List ℕ) (limit : ℕ) (whole : IsWhole e) (sure : e.1.0 ≡ None) (side : e.1.1 ≡ opened_side e.1.1.stores.non_volatile limit) where

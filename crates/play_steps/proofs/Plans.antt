@@ -1,19 +1,19 @@
 -- A call that an engine answered is a plan of the core.
-use Rattle.std.proofs.Common.{◌≡◌, ⊎_elim, inl, inr, ℕ, zero, suc, ◌+◌, ◌-◌, ◌≤◌, ◌<◌, true, false, List, [], ◌∷◌, ◌++◌, All, Option, Some, None, length, map, take, refl, sym, ap, subst, ◌∙◌, arith, length-append}
+use Rattle.std.proofs.Common.{◌≡◌, ⊎_elim, inl, inr, ℕ, ◌+◌, ◌-◌, ◌≤◌, ◌<◌, true, false, List, [], ◌∷◌, ◌++◌, All, Some, None, length, refl, sym, ap, subst, ◌∙◌, arith, length-append}
 use Rattle.std.proofs.lemmas.List.{length-map, take_all}
 use Rattle.std.specs.Prelude.{slice_get, slice_index_or}
 use Rattle.mm_writer.proofs.Consistent.{state_grown}
 use Rattle.mm_writer.proofs.Sides.{means_now}
-use Rattle.mm_writer.specs.Outcome.{Grows, IsKeptBy, entry_after}
+use Rattle.mm_writer.specs.Outcome.{Grows, entry_after}
 use Rattle.mm_writer.specs.Side.{IsInStore as IsInSide, Side, first_state, grown, state_of}
 use Rattle.play_steps.proofs.Done.{opening_by}
 use Rattle.play_steps.proofs.Marks.{at_each_moment}
-use Rattle.play_steps.specs.EngineWriter.{EngineState, IsDone, IsReady, IsWhole, KeepsEither, opening_of, own_of}
+use Rattle.play_steps.specs.EngineWriter.{EngineState, IsDone, IsReady, IsWhole, opening_of, own_of}
 use Rattle.play_steps.specs.ListedFlash.{GivesList, IsLeftIn, bytes_of}
 use Rattle.svc_core.specs.declared.flash_step.FlashStep.{FlashStep}
 use Rattle.svc_core.specs.FlashSteps.{Moments, StepsFit, after_steps}
-use Rattle.svc_core.specs.Plan.{IsChangePlan, IsInStore, IsPlan, KeepsWithOrWithout, Plan, store_size}
-use Rattle.svc_core.specs.Writer.{Opening, Writer, kept_after, state_at}
+use Rattle.svc_core.specs.Plan.{IsChangePlan, IsInStore, IsPlan, KeepsWithOrWithout, store_size}
+use Rattle.svc_core.specs.Writer.{Opening, Writer, state_at}
 use Rattle.var_trace.proofs.StoresAfter.{are_after}
 use Rattle.var_trace.specs.declared.change.Change.{Change}
 use Rattle.var_trace.specs.declared.piece.Piece.{Piece}
@@ -23,8 +23,7 @@ use Rattle.var_types.specs.declared.call.Call.{Call}
 use Rattle.var_types.specs.declared.reply.Reply.{Reply}
 use Rattle.var_types.specs.declared.store.Store.{Store}
 use Rattle.var_types.specs.declared.store.Store.TheVariants.{NonVolatile, Volatile}
-use Rattle.var_types.specs.History.{Entry, run}
-use Rattle.var_types.specs.Kept.{kept}
+use Rattle.var_types.specs.History.{run}
 use Rattle.var_types.specs.State.{State}
 use Rattle.var_types.specs.Step.{is_change, step}
 use Rattle.var_types.specs.Stores.{HaveSizes, Means, Stores, bytes_in, part}

@@ -1,3 +1,4 @@
 pub mod ListedFlash
 pub mod Told
 pub mod EngineWriter
+pub mod Play

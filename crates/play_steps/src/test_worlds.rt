@@ -5,12 +5,21 @@ use std::alloc::{AllocError, Global};
 use std::process::Abort;
 use std::test::Fail;
 use svc_core::{Event, Stepped, World};
+use var_trace::Session;
 use var_types::{
     Answered, Bytes, Call, GetCall, GetReply, Guid, NextCall, Reply, Route, SetCall, SetReply,
     Units, Verdict,
 };
 
-const VENDOR: Guid = Guid { bytes: [7; 16] };
+pub(crate) const VENDOR: Guid = Guid { bytes: [7; 16] };
+
+/// The name `X`.
+pub(crate) const X: u16 = 88;
+
+/// How many changes a history may have.
+pub(crate) const LIMIT: u64 = 100;
+
+pub(crate) const TEARS: [Torn; 3] = [Torn::Before, Torn::Half, Torn::After];
 
 /// The bytes of a blank image.
 pub(crate) fn blank(rt: &impl Abort, alloc: Global) -> Result<Vec<u8>, AllocError> {
@@ -24,14 +33,24 @@ pub(crate) fn blank(rt: &impl Abort, alloc: Global) -> Result<Vec<u8>, AllocErro
     Ok(flash.release())
 }
 
-pub(crate) fn set(alloc: Global, unit: u16, byte: u8) -> Result<Call, Fail> {
+pub(crate) fn set_with(
+    alloc: Global,
+    unit: u16,
+    attributes: u32,
+    bytes: &[u8],
+) -> Result<Call, Fail> {
     Ok(Call::Set(SetCall {
         guid: VENDOR,
         name: Units::new(alloc, &[unit])?,
-        attributes: 7,
-        bytes: Bytes::copy(alloc, &[byte])?,
+        attributes,
+        bytes: Bytes::copy(alloc, bytes)?,
         verdict: Verdict::Good,
     }))
+}
+
+/// Sets a non-volatile variable to a byte.
+pub(crate) fn set(alloc: Global, unit: u16, byte: u8) -> Result<Call, Fail> {
+    set_with(alloc, unit, 7, &[byte])
 }
 
 pub(crate) fn get(alloc: Global, unit: u16) -> Result<Call, Fail> {
@@ -61,9 +80,18 @@ pub(crate) fn begin(
     let count = calls.len();
     assert!(rt; 1 <= count && count <= 8);
     assert!(rt; calls.iter().all(|list| list.len() <= 20_000));
-    match begin_world(alloc, image.to_vec(alloc)?, calls, 100) {
+    match begin_world(alloc, image.to_vec(alloc)?, calls, LIMIT) {
         Ok(world) => Ok(world),
         Err(_) => panic!(rt; "no world is opened"),
+    }
+}
+
+/// The writer of a world over an image.
+pub(crate) fn open(rt: &impl Abort, alloc: Global, image: &[u8]) -> Result<EngineWriter, Fail> {
+    assert!(rt; image.len() == 131_072);
+    match EngineWriter::begin(alloc, image.to_vec(alloc)?, LIMIT) {
+        Ok(writer) => Ok(writer),
+        Err(_) => panic!(rt; "no writer is opened"),
     }
 }
 
@@ -117,11 +145,11 @@ fn shown(answered: &Answered) -> (u64, Route, Option<u8>) {
 /// A processor's answers are these.
 pub(crate) fn expect(
     rt: &impl Abort,
-    world: &World<EngineWriter>,
+    session: &Session,
     processor: usize,
     want: &[(u64, Route, Option<u8>)],
 ) {
-    let answered = match world.session().processors.get(processor) {
+    let answered = match session.processors.get(processor) {
         Some(answers) => answers.as_slice(),
         None => &[],
     };

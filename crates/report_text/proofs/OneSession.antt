@@ -1,19 +1,16 @@
-use Rattle.std.proofs.Common.{◌≡◌, ℕ, suc, ◌+◌, ◌-◌, List, [], ◌∷◌, ◌++◌, length, drop, decimal, All, refl, sym, ap, ◌∙◌, subst, arith, length-append}
+use Rattle.std.proofs.Common.{◌≡◌, ℕ, suc, ◌+◌, ◌-◌, List, [], ◌∷◌, ◌++◌, length, take, drop, decimal, map, All, refl, sym, ap, ◌∙◌, subst, arith, length-append}
 use Rattle.std.proofs.lemmas.Fmt.{decimal_injective}
-use Rattle.std.proofs.lemmas.List.{append_cancel_right, length-map}
 use Rattle.std.proofs.lemmas.List.Elements.{All-head, All-tail}
 use Rattle.std.proofs.lemmas.List.Prefix.{end_rest}
+use Rattle.std.proofs.Math.Seq.{drop-append_seam, take-append_seam}
 use Rattle.var_types.specs.Texts.{spaced}
 use Rattle.var_types.specs.declared.answered.Answered.{Answered}
-use Rattle.var_types.specs.declared.call.Call.{Call}
 use Rattle.var_types.specs.Session.{calls_of}
-use Rattle.report_text.specs.declared.word.Word.TheVariants as word
 use Rattle.var_types.specs.Step.{IsOfKind}
 use Rattle.report_text.specs.Fitting.{IsFitting}
 use Rattle.report_text.specs.Replies.{reply_text}
 use Rattle.report_text.specs.Report.{route_text}
-use Rattle.report_text.specs.Session.{OneReportOneSession, report_of}
-use Rattle.report_text.specs.Word.{word_text}
+use Rattle.report_text.specs.Session.{OneReportOneSession}
 use Rattle.report_text.proofs.Cut.{cut}
 use Rattle.report_text.proofs.SameReplies.{same_replies}
 use Rattle.report_text.proofs.SameRoutes.{same_routes}
@@ -62,24 +59,54 @@ same_answers index (x ∷ xs) (y ∷ ys) c h k e =
     let rest : xs ≡ ys = same_answers (index + 1) xs ys (cc) (All-tail IsFitting x xs h) (All-tail IsFitting y ys k) (cc) in
     cc
 
--- there is a line for each answered call
-length-answer_texts : (index : ℕ) (xs : List Answered) → length (answer_texts index xs) ≡ length xs
-length-answer_texts index [] = refl
-length-answer_texts index (x ∷ xs) = ap (λ n. suc n) (length-answer_texts (index + 1) xs)
+-- answered calls of the same calls have as many lines
+same_lengths : (index : ℕ) (xs ys : List Answered) → calls_of xs ≡ calls_of ys → length (answer_texts index xs) ≡ length (answer_texts index ys)
+same_lengths index [] [] c = refl
+same_lengths index [] (y ∷ ys) c = cc
+same_lengths index (x ∷ xs) [] c = cc
+same_lengths index (x ∷ xs) (y ∷ ys) c = ap (λ n. suc n) (same_lengths (index + 1) xs ys (cc))
 
--- and one before them and one behind them
-length-last_lines : (xs : List Answered) → length (last_lines xs) ≡ length xs + 2
-length-last_lines xs =
-    omega (arith, length-append (answer_texts 0 xs) (word_text word.End ∷ []), length-answer_texts 0 xs)
+-- and so do those of several processors
+same_last_lengths : (processor : ℕ) (xs ys : List (List Answered)) → map calls_of xs ≡ map calls_of ys
+    → length (last_lines processor xs) ≡ length (last_lines processor ys)
+same_last_lengths processor [] [] c = refl
+same_last_lengths processor [] (y ∷ ys) c = cc
+same_last_lengths processor (x ∷ xs) [] c = cc
+same_last_lengths processor (x ∷ xs) (y ∷ ys) c =
+    let first : calls_of x ≡ calls_of y = cc in
+    let rest = same_last_lengths (processor + 1) xs ys (cc) in
+    let own = same_lengths 0 x y first in
+    let left = length-append (answer_texts 0 x) (last_lines (processor + 1) xs) in
+    let right = length-append (answer_texts 0 y) (last_lines (processor + 1) ys) in
+    omega (arith, rest, own, left, right)
+
+-- two parts of one list, of which the first are as long as each other
+same_halves : (xs ys us vs : List (List ℕ)) → length xs ≡ length ys → xs ++ us ≡ ys ++ vs → (xs ≡ ys) × (us ≡ vs)
+same_halves xs ys us vs len e = (
+  sym (take-append_seam xs us) ∙ ap (take (length xs)) e ∙ ap (λ n. take n (ys ++ vs)) len ∙ take-append_seam ys vs,
+  sym (drop-append_seam xs us) ∙ ap (drop (length xs)) e ∙ ap (λ n. drop n (ys ++ vs)) len ∙ drop-append_seam ys vs,
+)
+
+-- processors with the same calls and the same lines
+same_processors : (processor : ℕ) (xs ys : List (List Answered)) → map calls_of xs ≡ map calls_of ys → All (All IsFitting) xs → All (All IsFitting) ys
+    → last_lines processor xs ≡ last_lines processor ys → xs ≡ ys
+same_processors processor [] [] c h k e = refl
+same_processors processor [] (y ∷ ys) c h k e = cc
+same_processors processor (x ∷ xs) [] c h k e = cc
+same_processors processor (x ∷ xs) (y ∷ ys) c h k e =
+    let calls : calls_of x ≡ calls_of y = cc in
+    let later : map calls_of xs ≡ map calls_of ys = cc in
+    let halves = same_halves (answer_texts 0 x) (answer_texts 0 y) (last_lines (processor + 1) xs) (last_lines (processor + 1) ys) (same_lengths 0 x y calls)
+    (ap (drop 1) e) in
+    let first : x ≡ y = same_answers 0 x y calls (All-head (All IsFitting) x xs h) (All-head (All IsFitting) y ys k) halves.0 in
+    let rest : xs ≡ ys =
+    same_processors (processor + 1) xs ys later (All-tail (All IsFitting) x xs h) (All-tail (All IsFitting) y ys k) halves.1 in
+    cc
 
 -- sessions of the same calls that have the same report are the same
 pub same_session : OneReportOneSession
-same_session xs ys calls h k e =
-    let lines = same_lines (first_lines xs ++ last_lines xs) (first_lines ys ++ last_lines ys) (AreLines-session xs) (AreLines-session ys)
-    (sym (session_text-lines xs) ∙ e ∙ session_text-lines ys) in
-    let as_many : length xs ≡ length ys = sym (length-map xs (λ a. a.call)) ∙ ap length calls ∙ length-map ys (λ a. a.call) in
-    let ends : last_lines xs ≡ last_lines ys =
-    same_ends (first_lines xs) (first_lines ys) (last_lines xs) (last_lines ys)
-    (length-last_lines xs ∙ ap (λ n. n + 2) as_many ∙ sym (length-last_lines ys)) lines in
-    let behind : answer_texts 0 xs ++ word_text word.End ∷ [] ≡ answer_texts 0 ys ++ word_text word.End ∷ [] = ap (drop 1) ends in
-    same_answers 0 xs ys calls h k (append_cancel_right (answer_texts 0 xs) (answer_texts 0 ys) (word_text word.End ∷ []) behind)
+same_session hx hy xs ys calls h k e =
+    let lines = same_lines (first_lines hx ++ last_lines 0 xs) (first_lines hy ++ last_lines 0 ys) (AreLines-session hx xs) (AreLines-session hy ys)
+    (sym (session_text-lines hx xs) ∙ e ∙ session_text-lines hy ys) in
+    same_processors 0 xs ys calls h k
+    (same_ends (first_lines hx) (first_lines hy) (last_lines 0 xs) (last_lines 0 ys) (same_last_lengths 0 xs ys calls) lines)

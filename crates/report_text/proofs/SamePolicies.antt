@@ -1,5 +1,5 @@
 -- Replies to calls about the policies with the same words are one.
-use Rattle.std.proofs.Common.{◌≡◌, ℕ, ◌+◌, ◌*◌, ◌^◌, ◌<◌, ◌≤◌, ◌==◌, List, [], ◌∷◌, length, take, fold, get_or, codes, decimal, refl, sym, ap, ◌∙◌, arith, if◌then◌else◌}
+use Rattle.std.proofs.Common.{◌≡◌, ℕ, ◌+◌, ◌*◌, ◌^◌, ◌<◌, ◌≤◌, ◌==◌, List, [], length, take, fold, get_or, decimal, refl, sym, ap, ◌∙◌, arith, if◌then◌else◌}
 use Rattle.std.proofs.lemmas.Fmt.{decimal_injective}
 use Rattle.var_types.specs.declared.entry_fault.EntryFault.{EntryFault}
 use Rattle.var_types.specs.declared.entry_fault.EntryFault.TheVariants as fault
@@ -8,11 +8,9 @@ use Rattle.var_types.specs.declared.policy_reason.PolicyReason.TheVariants as re
 use Rattle.var_types.specs.declared.policy_reply.PolicyReply.{PolicyReply}
 use Rattle.var_types.specs.declared.policy_reply.PolicyReply.TheVariants as policy
 use Rattle.var_types.specs.PolicyStep.{IsGivenReason, IsPolicyReply}
-use Rattle.var_types.specs.Texts.{bytes_text}
 use Rattle.var_types.specs.Values.{AreBytes}
 use Rattle.report_text.specs.Status.{status_text}
 use Rattle.report_text.specs.Word.{word_text}
-use Rattle.report_text.specs.declared.status.Status.TheVariants as status
 use Rattle.report_text.specs.PolicyValues.{HasValuesOfEntryFault, HasValuesOfPolicy, HasValuesOfPolicyReason}
 use Rattle.report_text.proofs.PolicyWords.{entry_fault_words, policy_reason_words, policy_words}
 use Rattle.report_text.proofs.SameTexts.{no_bytes_text, same_bytes}

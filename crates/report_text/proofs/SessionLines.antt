@@ -15,7 +15,6 @@ use Rattle.var_types.specs.declared.reply.Reply.{Reply}
 use Rattle.var_types.specs.declared.verdict.Verdict.{Verdict}
 use Rattle.var_types.specs.declared.verdict.Verdict.TheVariants.{Good, Bad}
 use Rattle.var_types.specs.History.{Entry}
-use Rattle.var_types.specs.Session.{history_of}
 use Rattle.report_text.specs.declared.word.Word.{Word}
 use Rattle.report_text.specs.declared.word.Word.TheVariants as word
 use Rattle.report_text.specs.Replies.{reply_text}
@@ -45,30 +44,31 @@ answer_texts index (a ∷ rest) = spaced (answer_words index a) ∷ answer_texts
 abbrev pub history_words : ℕ → List (List ℕ)
 history_words n = word_text word.History ∷ decimal n ∷ []
 
--- the words of the line before the answered calls
-abbrev pub processor_words : ℕ → List (List ℕ)
-processor_words n = word_text word.Processor ∷ decimal 0 ∷ word_text word.Calls ∷ decimal n ∷ []
+-- the words of the line before a processor's answered calls
+abbrev pub processor_words : ℕ → ℕ → List (List ℕ)
+processor_words processor n = word_text word.Processor ∷ decimal processor ∷ word_text word.Calls ∷ decimal n ∷ []
 
 -- the line of a change
 abbrev pub entry_text : Entry → List ℕ
 entry_text entry = spaced (entry_words entry)
 
 -- the lines of the history
-abbrev pub first_lines : List Answered → List (List ℕ)
-first_lines xs = spaced (history_words (length (history_of xs))) ∷ map entry_text (history_of xs)
+abbrev pub first_lines : List Entry → List (List ℕ)
+first_lines history = spaced (history_words (length history)) ∷ map entry_text history
 
--- the lines behind them
-abbrev pub last_lines : List Answered → List (List ℕ)
-last_lines xs = spaced (processor_words (length xs)) ∷ (answer_texts 0 xs ++ word_text word.End ∷ [])
+-- the lines behind them, of processors from this one on
+abbrev pub last_lines : ℕ → List (List Answered) → List (List ℕ)
+last_lines processor [] = word_text word.End ∷ []
+last_lines processor (answered ∷ rest) =
+    spaced (processor_words processor (length answered)) ∷ (answer_texts 0 answered ++ last_lines (processor + 1) rest)
 
 -- ---- a report is its lines
 
 -- the lines of the history
-history_lines-ended : (xs : List Answered) → history_lines (history_of xs) ≡ flat_map ended (first_lines xs)
+history_lines-ended : (history : List Entry) → history_lines history ≡ flat_map ended (first_lines history)
 unfolding history_lines entry_line
-history_lines-ended xs =
-    ap (λ (t : List ℕ). ended (spaced (history_words (length (history_of xs)))) ++ t)
-    (sym (flat_map-map ended entry_text (history_of xs)))
+history_lines-ended history =
+    ap (λ (t : List ℕ). ended (spaced (history_words (length history))) ++ t) (sym (flat_map-map ended entry_text history))
 
 -- the lines of answered calls
 answer_lines-ended : (index : ℕ) (xs : List Answered) → indexed answer_line index xs ≡ flat_map ended (answer_texts index xs)
@@ -76,24 +76,33 @@ unfolding answer_line
 answer_lines-ended index [] = refl
 answer_lines-ended index (a ∷ rest) = ap (λ (t : List ℕ). answer_line index a ++ t) (answer_lines-ended (index + 1) rest)
 
--- a first line, those of the answered calls, and a last one
-lines-ended : (first last : List ℕ) (xs : List Answered)
-    → (ended first ++ indexed answer_line 0 xs) ++ ended last ≡ flat_map ended (first ∷ (answer_texts 0 xs ++ last ∷ []))
-lines-ended first last xs =
-    append_assoc (ended first) (indexed answer_line 0 xs) (ended last)
+-- a first line, those of the answered calls, and later ones
+lines-ended : (first : List ℕ) (xs : List Answered) (later : List (List ℕ))
+    → (ended first ++ indexed answer_line 0 xs) ++ flat_map ended later ≡ flat_map ended (first ∷ (answer_texts 0 xs ++ later))
+lines-ended first xs later =
+    append_assoc (ended first) (indexed answer_line 0 xs) (flat_map ended later)
     ∙ ap (λ (t : List ℕ). ended first ++ t) (
-    ap (λ (t : List ℕ). t ++ ended last) (answer_lines-ended 0 xs)
-    ∙ ap (λ (t : List ℕ). flat_map ended (answer_texts 0 xs) ++ t) (sym (append-nil (ended last)))
-    ∙ sym (flat_map-append ended (answer_texts 0 xs) (last ∷ [])))
+    ap (λ (t : List ℕ). t ++ flat_map ended later) (answer_lines-ended 0 xs)
+    ∙ sym (flat_map-append ended (answer_texts 0 xs) later))
+
+-- the lines behind the history
+last_lines-ended : (processor : ℕ) (xs : List (List Answered))
+    → indexed processor_lines processor xs ++ line_text (word_text word.End ∷ []) ≡ flat_map ended (last_lines processor xs)
+unfolding processor_lines
+last_lines-ended processor [] = sym (append-nil (ended (word_text word.End)))
+last_lines-ended processor (x ∷ xs) =
+    append_assoc (processor_lines processor x) (indexed processor_lines (processor + 1) xs) (line_text (word_text word.End ∷ []))
+    ∙ ap (λ (t : List ℕ). processor_lines processor x ++ t) (last_lines-ended (processor + 1) xs)
+    ∙ lines-ended (spaced (processor_words processor (length x))) x (last_lines (processor + 1) xs)
 
 -- all lines
-pub session_text-lines : (xs : List Answered) → session_text (history_of xs) (xs ∷ []) ≡ flat_map ended (first_lines xs ++ last_lines xs)
-unfolding session_text processor_lines
-session_text-lines xs =
-    ap (λ (t : List ℕ). history_lines (history_of xs) ++ (t ++ line_text (word_text word.End ∷ []))) (append-nil (processor_lines 0 xs))
-    ∙ ap (λ (t : List ℕ). history_lines (history_of xs) ++ t) (lines-ended (spaced (processor_words (length xs))) (word_text word.End) xs)
-    ∙ ap (λ (t : List ℕ). t ++ flat_map ended (last_lines xs)) (history_lines-ended xs)
-    ∙ sym (flat_map-append ended (first_lines xs) (last_lines xs))
+pub session_text-lines : (history : List Entry) (xs : List (List Answered))
+    → session_text history xs ≡ flat_map ended (first_lines history ++ last_lines 0 xs)
+unfolding session_text
+session_text-lines history xs =
+    ap (λ (t : List ℕ). history_lines history ++ t) (last_lines-ended 0 xs)
+    ∙ ap (λ (t : List ℕ). t ++ flat_map ended (last_lines 0 xs)) (history_lines-ended history)
+    ∙ sym (flat_map-append ended (first_lines history) (last_lines 0 xs))
 
 -- ---- no line has a LF
 
@@ -173,19 +182,21 @@ AreLines-answers index (a ∷ rest) = (
 )
 
 -- the lines of the history, without LF
-AreLines-first : (xs : List Answered) → AreLines (first_lines xs)
-AreLines-first xs = (
-  IsLine-spaced (history_words (length (history_of xs))) (word_line word.History, (number_line (length (history_of xs)), tt)),
-  AreLines-history (history_of xs),
+AreLines-first : (history : List Entry) → AreLines (first_lines history)
+AreLines-first history = (
+  IsLine-spaced (history_words (length history)) (word_line word.History, (number_line (length history), tt)),
+  AreLines-history history,
 )
 
 -- the lines behind them, without LF
-AreLines-last : (xs : List Answered) → AreLines (last_lines xs)
-AreLines-last xs = (
-  IsLine-spaced (processor_words (length xs)) (word_line word.Processor, (number_line 0, (word_line word.Calls, (number_line (length xs), tt)))),
-  AreLines-append (answer_texts 0 xs) (word_text word.End ∷ []) (AreLines-answers 0 xs) (word_line word.End, tt),
+AreLines-last : (processor : ℕ) (xs : List (List Answered)) → AreLines (last_lines processor xs)
+AreLines-last processor [] = (word_line word.End, tt)
+AreLines-last processor (x ∷ xs) = (
+  IsLine-spaced (processor_words processor (length x))
+      (word_line word.Processor, (number_line processor, (word_line word.Calls, (number_line (length x), tt)))),
+  AreLines-append (answer_texts 0 x) (last_lines (processor + 1) xs) (AreLines-answers 0 x) (AreLines-last (processor + 1) xs),
 )
 
 -- all lines, without LF
-pub AreLines-session : (xs : List Answered) → AreLines (first_lines xs ++ last_lines xs)
-AreLines-session xs = AreLines-append (first_lines xs) (last_lines xs) (AreLines-first xs) (AreLines-last xs)
+pub AreLines-session : (history : List Entry) (xs : List (List Answered)) → AreLines (first_lines history ++ last_lines 0 xs)
+AreLines-session history xs = AreLines-append (first_lines history) (last_lines 0 xs) (AreLines-first history) (AreLines-last 0 xs)

@@ -2,7 +2,7 @@
 ghost use Rattle.report_text.specs.Session.{OneReportOneSession};
 ghost use Rattle.report_text.specs.Summary.{OneCallMore};
 
-/// A report tells the session of one processor that it is of.
+/// A report tells what its session answered to each processor.
 pub fn one_report_one_session()
     ensures { OneReportOneSession }
 {}

@@ -32,8 +32,9 @@ fn write_entries<P: Put>(held: &BTreeMap<Key, Found>, out: &mut P)
     }
 }
 
+/// Puts the listing of variables that were found in a region; takes no memory.
 #[tactic(auto, unfolding(crate::specs::Listing::listing_text))]
-fn write_variables<P: Put>(held: &BTreeMap<Key, Found>, out: &mut P)
+pub fn write_found<P: Put>(held: &BTreeMap<Key, Found>, out: &mut P)
     ensures { P.Puts out.old out.new (listing_text (map entry_of held.now.entries)) }
 {
     let count = held.len() as u64;
@@ -48,6 +49,6 @@ pub fn write_listing<P: Put>(alloc: Global, region: &Region, out: &mut P) -> Res
     ensures err { OnErr result (out.new ≡ out.old) }
 {
     let variables = variables_of(alloc, region)?;
-    write_variables(&variables, out);
+    write_found(&variables, out);
     Ok(())
 }

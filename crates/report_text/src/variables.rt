@@ -38,7 +38,7 @@ fn hold<'a>(
 
 /// The record that counts for each key of a region: its first ADDED one, else its last in transition to deleted.
 #[tactic(auto, using(var_types::proofs::Bounds::short_names))]
-pub(crate) fn variables_of<'a>(
+pub fn variables_of<'a>(
     alloc: Global,
     region: &Region<'a>,
 ) -> Result<BTreeMap<Key, Found<'a>>, OutOfMemory>

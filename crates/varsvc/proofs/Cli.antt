@@ -1,5 +1,5 @@
 -- What `clap` makes of a verb and the words behind it, of which none begins with a dash.
-use Rattle.std.proofs.Common.{◌≡◌, ℕ, ◌+◌, ◌≤◌, Bool, true, false, cond, ltb, inl, inr, List, [], ◌∷◌, length, take, Some, None, refl, sym, ap, ◌∙◌, subst, arith}
+use Rattle.std.proofs.Common.{◌≡◌, ◌≢◌, ℕ, ◌+◌, ◌≤◌, Bool, true, false, cond, ltb, inl, inr, List, [], ◌∷◌, length, take, Some, None, refl, sym, ap, ◌∙◌, subst, arith}
 use Rattle.std.specs.Prelude.{position}
 use Rattle.std.specs.List.{position_or_len}
 use Rattle.std.proofs.lemmas.Bool.{cases_Bool, le-ltb, ltb-false}
@@ -11,7 +11,7 @@ use Rattle.script_text.proofs.LineLemmas.{missing as missing_place}
 use Rattle.varsvc.specs.declared.verb.Verb.{Verb}
 use Rattle.varsvc.specs.declared.verb.Verb.TheVariants as verb
 use Rattle.varsvc.specs.Cli.{cli, operand_in, operand_word, refusal_of, verb_word}
-use Rattle.varsvc.specs.Order.{IsUsage, is_dashed, operand_order}
+use Rattle.varsvc.specs.Order.{IsUsage, is_dashed, one_operand}
 
 pub cli_is_simple : is_simple cli ≡ true
 cli_is_simple = refl
@@ -19,74 +19,78 @@ cli_is_simple = refl
 pub cli_is_free : is_simple_and_free cli ≡ true
 cli_is_free = refl
 
--- a verb alone
-missing : (v : Verb) → fault_of cli (verb_word v ∷ []) ≡ kind.MissingRequiredArgument ∷ []
+-- a verb that takes a word, alone
+missing : (v : Verb) → v ≢ verb.Play → fault_of cli (verb_word v ∷ []) ≡ kind.MissingRequiredArgument ∷ []
 unfolding clap_on_literals
-missing verb.Run = refl
-missing verb.List = refl
-missing verb.Check = refl
-missing verb.Format = refl
-missing verb.Make = refl
-missing verb.Work = refl
+missing verb.Run other = refl
+missing verb.Play other = absurd (other refl)
+missing verb.List other = refl
+missing verb.Check other = refl
+missing verb.Format other = refl
+missing verb.Make other = refl
+missing verb.Work other = refl
 
--- a verb and a word
-accepted : (v : Verb) (a : List ℕ) → is_dashed a ≡ false → fault_of cli (verb_word v ∷ a ∷ []) ≡ []
+-- such a verb and a word
+accepted : (v : Verb) (a : List ℕ) → v ≢ verb.Play → is_dashed a ≡ false → fault_of cli (verb_word v ∷ a ∷ []) ≡ []
 unfolding clap_on_literals
-accepted verb.Run [] plain = refl
-accepted verb.Run (c ∷ cs) plain = rw plain (rw plain refl)
-accepted verb.List [] plain = refl
-accepted verb.List (c ∷ cs) plain = rw plain (rw plain refl)
-accepted verb.Check [] plain = refl
-accepted verb.Check (c ∷ cs) plain = rw plain (rw plain refl)
-accepted verb.Format [] plain = refl
-accepted verb.Format (c ∷ cs) plain = rw plain (rw plain refl)
-accepted verb.Make [] plain = refl
-accepted verb.Make (c ∷ cs) plain = rw plain (rw plain refl)
-accepted verb.Work [] plain = refl
-accepted verb.Work (c ∷ cs) plain = rw plain (rw plain refl)
+accepted verb.Run [] other plain = refl
+accepted verb.Run (c ∷ cs) other plain = rw plain (rw plain refl)
+accepted verb.Play a other plain = absurd (other refl)
+accepted verb.List [] other plain = refl
+accepted verb.List (c ∷ cs) other plain = rw plain (rw plain refl)
+accepted verb.Check [] other plain = refl
+accepted verb.Check (c ∷ cs) other plain = rw plain (rw plain refl)
+accepted verb.Format [] other plain = refl
+accepted verb.Format (c ∷ cs) other plain = rw plain (rw plain refl)
+accepted verb.Make [] other plain = refl
+accepted verb.Make (c ∷ cs) other plain = rw plain (rw plain refl)
+accepted verb.Work [] other plain = refl
+accepted verb.Work (c ∷ cs) other plain = rw plain (rw plain refl)
 
-operand : (v : Verb) (a : List ℕ) → is_dashed a ≡ false → operand_in (operand_word v) (subcommand_of cli (verb_word v ∷ a ∷ [])) ≡ Some a
+operand : (v : Verb) (a : List ℕ) → v ≢ verb.Play → is_dashed a ≡ false → operand_in (operand_word v) (subcommand_of cli (verb_word v ∷ a ∷ [])) ≡ Some a
 unfolding clap_on_literals
-operand verb.Run [] plain = refl
-operand verb.Run (c ∷ cs) plain = rw plain (rw plain refl)
-operand verb.List [] plain = refl
-operand verb.List (c ∷ cs) plain = rw plain (rw plain refl)
-operand verb.Check [] plain = refl
-operand verb.Check (c ∷ cs) plain = rw plain (rw plain refl)
-operand verb.Format [] plain = refl
-operand verb.Format (c ∷ cs) plain = rw plain (rw plain refl)
-operand verb.Make [] plain = refl
-operand verb.Make (c ∷ cs) plain = rw plain (rw plain refl)
-operand verb.Work [] plain = refl
-operand verb.Work (c ∷ cs) plain = rw plain (rw plain refl)
+operand verb.Run [] other plain = refl
+operand verb.Run (c ∷ cs) other plain = rw plain (rw plain refl)
+operand verb.Play a other plain = absurd (other refl)
+operand verb.List [] other plain = refl
+operand verb.List (c ∷ cs) other plain = rw plain (rw plain refl)
+operand verb.Check [] other plain = refl
+operand verb.Check (c ∷ cs) other plain = rw plain (rw plain refl)
+operand verb.Format [] other plain = refl
+operand verb.Format (c ∷ cs) other plain = rw plain (rw plain refl)
+operand verb.Make [] other plain = refl
+operand verb.Make (c ∷ cs) other plain = rw plain (rw plain refl)
+operand verb.Work [] other plain = refl
+operand verb.Work (c ∷ cs) other plain = rw plain (rw plain refl)
 
--- a verb and two words
-extra : (v : Verb) (a b : List ℕ) → is_dashed a ≡ false → is_dashed b ≡ false → fault_of cli (verb_word v ∷ a ∷ b ∷ []) ≡ kind.UnknownArgument ∷ []
+-- such a verb and two words
+extra : (v : Verb) (a b : List ℕ) → v ≢ verb.Play → is_dashed a ≡ false → is_dashed b ≡ false → fault_of cli (verb_word v ∷ a ∷ b ∷ []) ≡ kind.UnknownArgument ∷ []
 unfolding clap_on_literals
-extra verb.Run [] [] plain also = refl
-extra verb.Run [] (d ∷ ds) plain also = rw also (rw also refl)
-extra verb.Run (c ∷ cs) [] plain also = rw plain (rw plain refl)
-extra verb.Run (c ∷ cs) (d ∷ ds) plain also = rw plain (rw plain (rw also (rw also refl)))
-extra verb.List [] [] plain also = refl
-extra verb.List [] (d ∷ ds) plain also = rw also (rw also refl)
-extra verb.List (c ∷ cs) [] plain also = rw plain (rw plain refl)
-extra verb.List (c ∷ cs) (d ∷ ds) plain also = rw plain (rw plain (rw also (rw also refl)))
-extra verb.Check [] [] plain also = refl
-extra verb.Check [] (d ∷ ds) plain also = rw also (rw also refl)
-extra verb.Check (c ∷ cs) [] plain also = rw plain (rw plain refl)
-extra verb.Check (c ∷ cs) (d ∷ ds) plain also = rw plain (rw plain (rw also (rw also refl)))
-extra verb.Format [] [] plain also = refl
-extra verb.Format [] (d ∷ ds) plain also = rw also (rw also refl)
-extra verb.Format (c ∷ cs) [] plain also = rw plain (rw plain refl)
-extra verb.Format (c ∷ cs) (d ∷ ds) plain also = rw plain (rw plain (rw also (rw also refl)))
-extra verb.Make [] [] plain also = refl
-extra verb.Make [] (d ∷ ds) plain also = rw also (rw also refl)
-extra verb.Make (c ∷ cs) [] plain also = rw plain (rw plain refl)
-extra verb.Make (c ∷ cs) (d ∷ ds) plain also = rw plain (rw plain (rw also (rw also refl)))
-extra verb.Work [] [] plain also = refl
-extra verb.Work [] (d ∷ ds) plain also = rw also (rw also refl)
-extra verb.Work (c ∷ cs) [] plain also = rw plain (rw plain refl)
-extra verb.Work (c ∷ cs) (d ∷ ds) plain also = rw plain (rw plain (rw also (rw also refl)))
+extra verb.Run [] [] other plain also = refl
+extra verb.Run [] (d ∷ ds) other plain also = rw also (rw also refl)
+extra verb.Run (c ∷ cs) [] other plain also = rw plain (rw plain refl)
+extra verb.Run (c ∷ cs) (d ∷ ds) other plain also = rw plain (rw plain (rw also (rw also refl)))
+extra verb.Play a b other plain also = absurd (other refl)
+extra verb.List [] [] other plain also = refl
+extra verb.List [] (d ∷ ds) other plain also = rw also (rw also refl)
+extra verb.List (c ∷ cs) [] other plain also = rw plain (rw plain refl)
+extra verb.List (c ∷ cs) (d ∷ ds) other plain also = rw plain (rw plain (rw also (rw also refl)))
+extra verb.Check [] [] other plain also = refl
+extra verb.Check [] (d ∷ ds) other plain also = rw also (rw also refl)
+extra verb.Check (c ∷ cs) [] other plain also = rw plain (rw plain refl)
+extra verb.Check (c ∷ cs) (d ∷ ds) other plain also = rw plain (rw plain (rw also (rw also refl)))
+extra verb.Format [] [] other plain also = refl
+extra verb.Format [] (d ∷ ds) other plain also = rw also (rw also refl)
+extra verb.Format (c ∷ cs) [] other plain also = rw plain (rw plain refl)
+extra verb.Format (c ∷ cs) (d ∷ ds) other plain also = rw plain (rw plain (rw also (rw also refl)))
+extra verb.Make [] [] other plain also = refl
+extra verb.Make [] (d ∷ ds) other plain also = rw also (rw also refl)
+extra verb.Make (c ∷ cs) [] other plain also = rw plain (rw plain refl)
+extra verb.Make (c ∷ cs) (d ∷ ds) other plain also = rw plain (rw plain (rw also (rw also refl)))
+extra verb.Work [] [] other plain also = refl
+extra verb.Work [] (d ∷ ds) other plain also = rw also (rw also refl)
+extra verb.Work (c ∷ cs) [] other plain also = rw plain (rw plain refl)
+extra verb.Work (c ∷ cs) (d ∷ ds) other plain also = rw plain (rw plain (rw also (rw also refl)))
 
 -- where no word is dashed, the first is not, nor is one of the others
 undashed : (a : List ℕ) (rest : List (List ℕ)) → position is_dashed (a ∷ rest) ≡ None → (is_dashed a ≡ false) × (position is_dashed rest ≡ None)
@@ -104,25 +108,25 @@ undashed a rest none =
     ]
 
 -- a parse that succeeds found one word behind the verb
-pub parsed_one : (v : Verb) (rest : List (List ℕ)) → position is_dashed rest ≡ None → fault_of cli (take 3 (verb_word v ∷ rest)) ≡ []
+pub parsed_one : (v : Verb) (rest : List (List ℕ)) → v ≢ verb.Play → position is_dashed rest ≡ None → fault_of cli (take 3 (verb_word v ∷ rest)) ≡ []
     → (a : List ℕ) × (rest ≡ a ∷ []) × (operand_in (operand_word v) (subcommand_of cli (take 3 (verb_word v ∷ rest))) ≡ Some a)
-parsed_one v [] none h = let other : kind.MissingRequiredArgument ∷ [] ≡ [] = sym (missing v) ∙ h in cc
-parsed_one v (a ∷ []) none h = (a, refl, operand v a (undashed a [] none).0)
-parsed_one v (a ∷ b ∷ rest) none h =
+parsed_one v [] other none h = let clash : kind.MissingRequiredArgument ∷ [] ≡ [] = sym (missing v other) ∙ h in cc
+parsed_one v (a ∷ []) other none h = (a, refl, operand v a other (undashed a [] none).0)
+parsed_one v (a ∷ b ∷ rest) other none h =
     let first = undashed a (b ∷ rest) none in
-    let other : kind.UnknownArgument ∷ [] ≡ [] = sym (extra v a b first.0 (undashed b rest first.1).0) ∙ h in cc
+    let clash : kind.UnknownArgument ∷ [] ≡ [] = sym (extra v a b other first.0 (undashed b rest first.1).0) ∙ h in cc
 
 -- one that fails refuses the words for their number
 among : (k found : ErrorKind) → IsAmong k (found ∷ []) → k ≡ found
 among k found (inl is) = is
-among k found (inr other) = absurd other
+among k found (inr none) = absurd none
 
-pub parsed_none : (v : Verb) (rest : List (List ℕ)) (k : ErrorKind) → position is_dashed rest ≡ None
-    → IsAmong k (fault_of cli (take 3 (verb_word v ∷ rest))) → IsUsage (refusal_of k) (operand_order v rest)
-parsed_none v [] k none h =
-    subst (λ (e : ErrorKind). IsUsage (refusal_of e) (operand_order v [])) (sym (among k _ (subst (λ (ks : Kinds). IsAmong k ks) (missing v) h))) refl
-parsed_none v (a ∷ []) k none h = absurd (subst (λ (ks : Kinds). IsAmong k ks) (accepted v a (undashed a [] none).0) h)
-parsed_none v (a ∷ b ∷ rest) k none h =
+pub parsed_none : (v : Verb) (rest : List (List ℕ)) (k : ErrorKind) → v ≢ verb.Play → position is_dashed rest ≡ None
+    → IsAmong k (fault_of cli (take 3 (verb_word v ∷ rest))) → IsUsage (refusal_of k) (one_operand v rest)
+parsed_none v [] k other none h =
+    subst (λ (e : ErrorKind). IsUsage (refusal_of e) (one_operand v [])) (sym (among k _ (subst (λ (ks : Kinds). IsAmong k ks) (missing v other) h))) refl
+parsed_none v (a ∷ []) k other none h = absurd (subst (λ (ks : Kinds). IsAmong k ks) (accepted v a other (undashed a [] none).0) h)
+parsed_none v (a ∷ b ∷ rest) k other none h =
     let first = undashed a (b ∷ rest) none in
-    subst (λ (e : ErrorKind). IsUsage (refusal_of e) (operand_order v (a ∷ b ∷ rest)))
-    (sym (among k _ (subst (λ (ks : Kinds). IsAmong k ks) (extra v a b first.0 (undashed b rest first.1).0) h))) refl
+    subst (λ (e : ErrorKind). IsUsage (refusal_of e) (one_operand v (a ∷ b ∷ rest)))
+    (sym (among k _ (subst (λ (ks : Kinds). IsAmong k ks) (extra v a b other first.0 (undashed b rest first.1).0) h))) refl

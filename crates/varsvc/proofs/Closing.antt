@@ -1,34 +1,31 @@
 -- From an opening to the calls that were run on it, and to what they leave.
-use Rattle.std.proofs.Common.{◌≡◌, ℕ, ◌<◌, ◌≤◌, Bool, true, false, true≢false, Result, Ok, Err, IsOk, List, [], ◌∷◌, length, take, max, Option, Some, None, IfSome, IsSomeAnd, refl, sym, ap, subst, ◌∙◌, arith, inl, ⊎_elim}
+use Rattle.std.proofs.Common.{◌≡◌, ℕ, ◌≤◌, Bool, true, false, true≢false, Result, Ok, Err, IsOk, List, [], length, sum_by, Option, Some, None, IfSome, IsSomeAnd, refl, sym, ap, subst, ◌∙◌, arith, inl}
 use Rattle.std.proofs.lemmas.List.{take_all}
-use Rattle.std.proofs.lemmas.List.Elements.{All-cons, All-nil}
 use Rattle.flash_dev.specs.declared.geometry.Geometry.{Geometry}
 use Rattle.flash_dev.specs.declared.image_fault.ImageFault.{ImageFault}
 use Rattle.flash_dev.proofs.Moments.{stays_since, stays_weaken}
-use Rattle.flash_dev.specs.Moments.{Stays}
 use Rattle.flash_dev.specs.Rules.{Leaves}
 use Rattle.mm_writer.specs.Outcome.{IsKeptBy}
 use Rattle.mm_writer.specs.Side.{Side, first_state, state_of}
 use Rattle.ftw_mount.specs.Mount.{content_geometry}
 use Rattle.nv_store.specs.Opening.{IsOpeningLeft, refusal_by, refusal_of}
-use Rattle.outside.specs.Faults.{HasRisen}
+use Rattle.report_text.specs.Session.{history_from}
 use Rattle.var_trace.specs.declared.change.Change.{Change}
 use Rattle.var_trace.specs.StoresAfter.{history_in}
 use Rattle.var_types.specs.declared.answered.Answered.{Answered}
-use Rattle.var_types.specs.declared.answered.Route.TheVariants.{Plain}
 use Rattle.var_types.specs.declared.store.Store.TheVariants.{NonVolatile}
 use Rattle.var_types.specs.History.{Entry, after, run}
 use Rattle.var_types.specs.Kept.{IsSound, kept, spare, work_area}
 use Rattle.var_types.specs.declared.work_state.WorkState.{WorkState}
 use Rattle.var_types.specs.declared.work_state.WorkState.TheVariants.{Clean, Pending, Unclean}
 use Rattle.var_types.specs.WorkArea.{is_blank, work_state}
-use Rattle.var_types.specs.Session.{AreOrderedFrom, ArePlain, IsLegalSession, history_of}
 use Rattle.var_types.specs.State.{State}
 use Rattle.var_types.specs.Stores.{part}
 use Rattle.varsvc.specs.Opened.{IsOpened}
 use Rattle.varsvc.specs.Running.{HasRun, IsFrontLeft}
 use Rattle.varsvc.specs.Runs.{LeavesRun, start_on, variables_at}
-use Rattle.varsvc.specs.Told.{Told, told_of}
+use Rattle.varsvc.specs.Told.{told_of}
+use Rattle.varsvc.proofs.Processors.{no_processor}
 use Rattle.varsvc.proofs.Running.{front_now, length_history}
 
 -- an image that isn't refused is accepted
@@ -43,15 +40,6 @@ accepted_image image is = by (content_geometry image) (is_blank (spare image)) (
     by (Ok geometry) false Unclean is = cc
     by (Ok geometry) false (Clean slots) is = (refl, λ h. let e = h.1 in cc)
     by (Ok geometry) false (Pending slot) is = (refl, λ h. let e = h.1 in cc)
-
--- a session of no call is legal
-pub no_call : (first : State) → IsLegalSession first [] ([] ∷ [])
-no_call first = record {
-  right = (tt, tt);
-  ordered = All-cons (AreOrderedFrom 0) [] [] tt (All-nil (AreOrderedFrom 0));
-  once = (refl, All-nil (λ (entry : Entry). entry.processor < 1));
-  plain = All-cons ArePlain [] [] (All-nil (λ (a : Answered). a.route ≡ Plain)) (All-nil ArePlain);
-}
 
 -- the state of a side without changes is that from which it opened
 pub state_first : (side : Side) → side.log ≡ [] → state_of side ≡ first_state side
@@ -79,7 +67,8 @@ module _ {F : Type 0} {fault_count moment : F → ℕ} {left_since : F → ℕ �
   run_first = record {
     opened = refl;
     log = ap history_in o.empty;
-    legal = no_call (first_state opened.1.1);
+    legal = no_processor (first_state opened.1.1);
+    in_turn = tt;
     calm = λ _. o.calm;
     failed = inl (let e = o.calm in omega (arith, e));
     never_falls = let e = o.calm in omega (arith, e);
@@ -87,51 +76,51 @@ module _ {F : Type 0} {fault_count moment : F → ℕ} {left_since : F → ℕ �
     at_any_moment = λ _. stays_weaken IsOpeningLeft (IsFrontLeft opened.1.1) flash opened.0 o.at_any_moment (λ image left told is. front_opened image left told is);
   }
 
-  module _ (only_now : (left : List ℕ) → left_since flash (moment flash) left → IfSome (holds flash) (λ image. left ≡ image)) (closed : F × (Option (List ℕ) × Side)) (xs : List Answered) (ran : HasRun fault_count moment left_since holds (first_state opened.1.1) flash closed xs) (count : length xs ≡ calls) (kept_now : closed.1.0 ≡ None → IfSome (holds closed.0) (IsKeptBy closed.1.1)) where
+  module _ (only_now : (left : List ℕ) → left_since flash (moment flash) left → IfSome (holds flash) (λ image. left ≡ image)) (closed : F × (Option (List ℕ) × Side)) (xs : List (List Answered)) (ran : HasRun fault_count moment left_since holds (first_state opened.1.1) flash closed xs) (count : sum_by length xs ≡ calls) (kept_now : closed.1.0 ≡ None → IfSome (holds closed.0) (IsKeptBy closed.1.1)) where
     -- the first state by the image
-    pub first_on : IfSome (holds flash) (λ image. first_state opened.1.1 ≡ start_on image (length xs))
+    pub first_on : IfSome (holds flash) (λ image. first_state opened.1.1 ≡ start_on image (sum_by length xs))
     first_on = some (holds flash) o.state
       where
         some : (told : Option (List ℕ)) → IfSome told (λ image. state_of opened.1.1 ≡ start_on image calls)
-            → IfSome told (λ image. first_state opened.1.1 ≡ start_on image (length xs))
+            → IfSome told (λ image. first_state opened.1.1 ≡ start_on image (sum_by length xs))
         some None is = tt
         some (Some image) is = sym (state_first opened.1.1 o.empty) ∙ is ∙ ap (start_on image) (sym count)
 
     -- the variables after a front of the side's history are those after the session's
     variables_are : (k : ℕ) → part NonVolatile (after (first_state closed.1.1) (history_in closed.1.1.log) k).variables
-        ≡ variables_at (first_state opened.1.1) xs k
+        ≡ variables_at (first_state opened.1.1) (history_from 0 xs) k
     variables_are k =
         ap (λ (s : State). part NonVolatile (after s (history_in closed.1.1.log) k).variables) ran.opened
         ∙ ap (λ (es : List Entry). part NonVolatile (after (first_state opened.1.1) es k).variables) ran.log
 
-    as_many : length closed.1.1.log ≡ length (history_of xs)
+    as_many : length closed.1.1.log ≡ length (history_from 0 xs)
     as_many = sym (length_history closed.1.1) ∙ ap (λ (es : List Entry). length es) ran.log
 
     front_is : (image left : List ℕ) → IsFrontLeft closed.1.1 image left
-        → (k : ℕ) × (k ≤ length (history_of xs)) × (kept left ≡ variables_at (first_state opened.1.1) xs k)
+        → (k : ℕ) × (k ≤ length (history_from 0 xs)) × (kept left ≡ variables_at (first_state opened.1.1) (history_from 0 xs) k)
     front_is image left (k, within, is) = let e = as_many in (k, omega (arith, within, e), is ∙ variables_are k)
 
     -- all of it
-    whole : (left : List ℕ) → IsKeptBy closed.1.1 left → kept left ≡ variables_at (first_state opened.1.1) xs (length (history_of xs))
+    whole : (left : List ℕ) → IsKeptBy closed.1.1 left → kept left ≡ variables_at (first_state opened.1.1) (history_from 0 xs) (length (history_from 0 xs))
     unfolding state_of
     whole left is =
         is
         ∙ ap (λ (es : List Entry). part NonVolatile (run (first_state closed.1.1) es).variables)
-        (sym (take_all (length (history_of xs)) (history_in closed.1.1.log) (let e = ap (λ (es : List Entry). length es) ran.log in omega (arith, e))))
-        ∙ variables_are (length (history_of xs))
+        (sym (take_all (length (history_from 0 xs)) (history_in closed.1.1.log) (let e = ap (λ (es : List Entry). length es) ran.log in omega (arith, e))))
+        ∙ variables_are (length (history_from 0 xs))
 
     kept_end : (told : Option (List ℕ)) → Leaves (IsFrontLeft closed.1.1) told (holds closed.0) → IfSome (holds closed.0) (IsKeptBy closed.1.1)
-        → IfSome told (λ image. IsSomeAnd (holds closed.0) (λ left. kept left ≡ variables_at (first_state opened.1.1) xs (length (history_of xs))))
+        → IfSome told (λ image. IsSomeAnd (holds closed.0) (λ left. kept left ≡ variables_at (first_state opened.1.1) (history_from 0 xs) (length (history_from 0 xs))))
     kept_end None stays held = tt
     kept_end (Some image) stays held = from (holds closed.0) stays held
       where
         from : (now : Option (List ℕ)) → IsSomeAnd now (IsFrontLeft closed.1.1 image) → IfSome now (IsKeptBy closed.1.1)
-            → IsSomeAnd now (λ left. kept left ≡ variables_at (first_state opened.1.1) xs (length (history_of xs)))
+            → IsSomeAnd now (λ left. kept left ≡ variables_at (first_state opened.1.1) (history_from 0 xs) (length (history_from 0 xs)))
         from None is held = absurd is
         from (Some left) is held = whole left held
 
     fronts : (told : Option (List ℕ)) (left : List ℕ) → IfSome told (λ image. IsFrontLeft closed.1.1 image left)
-        → IfSome told (λ image. (k : ℕ) × (k ≤ length (history_of xs)) × (kept left ≡ variables_at (first_state opened.1.1) xs k))
+        → IfSome told (λ image. (k : ℕ) × (k ≤ length (history_from 0 xs)) × (kept left ≡ variables_at (first_state opened.1.1) (history_from 0 xs) k))
     fronts None left is = tt
     fronts (Some image) left is = front_is image left is
 
@@ -152,9 +141,9 @@ module _ {F : Type 0} {fault_count moment : F → ℕ} {left_since : F → ℕ �
       where
         later : (told : Option (List ℕ))
             → ((left : List ℕ) → left_since closed.0 (moment flash) left
-            → IfSome told (λ image. (k : ℕ) × (k ≤ length (history_of xs)) × (kept left ≡ variables_at (first_state opened.1.1) xs k)))
+            → IfSome told (λ image. (k : ℕ) × (k ≤ length (history_from 0 xs)) × (kept left ≡ variables_at (first_state opened.1.1) (history_from 0 xs) k)))
             → IfSome told (λ image. (left : List ℕ) → left_since closed.0 (moment flash) left
-            → (k : ℕ) × (k ≤ length (history_of xs)) × (kept left ≡ variables_at (first_state opened.1.1) xs k))
+            → (k : ℕ) × (k ≤ length (history_from 0 xs)) × (kept left ≡ variables_at (first_state opened.1.1) (history_from 0 xs) k))
         later None h = tt
         later (Some image) h = h
 

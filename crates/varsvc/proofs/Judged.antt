@@ -1,5 +1,5 @@
 -- Where no call fails, what is accepted is done, and what is refused ends with its refusal.
-use Rattle.std.proofs.Common.{◌≡◌, ◌≢◌, ◌⊎◌, ℕ, Bool, false, List, Option, Some, None, Result, Ok, Err, IsOk, IsErr, IfSome, [], ◌∷◌, inl, inr, ⊎_elim, subst, sym, ◌∙◌, true≢false}
+use Rattle.std.proofs.Common.{◌≡◌, ◌≢◌, ◌⊎◌, ℕ, Bool, false, List, Option, Some, None, Result, Ok, Err, IsOk, IsErr, IfSome, map, inl, inr, ⊎_elim, subst, sym, ◌∙◌, true≢false}
 use Rattle.std.proofs.lemmas.Bool.{cases_eq}
 use Rattle.ftw_mount.specs.Mount.{content_geometry}
 use Rattle.script_text.specs.Script.{script_of}
@@ -11,7 +11,8 @@ use Rattle.varsvc.specs.declared.order.Order.{Order}
 use Rattle.varsvc.specs.declared.order.Order.TheVariants as order
 use Rattle.varsvc.specs.declared.usage.UsageFault.{UsageFault}
 use Rattle.varsvc.specs.Images.{Inspects, IsImage, IsNoImage, RefusesList}
-use Rattle.varsvc.specs.Outcome.{Counts, IsCalm, Prints, Row, format_row, text_row, inspection_row, text_row, row, text_row, run_row, text_row, usage_row}
+use Rattle.varsvc.specs.Outcome.{Counts, IsCalm, Prints, Row, format_row, inspection_row, play_row, row, run_row, text_row, usage_row}
+use Rattle.varsvc.specs.Plays.{IsNoPlayScript, IsPlayScript, Plays, RefusesPlay}
 use Rattle.varsvc.specs.Runs.{IsNoScript, IsScript, RefusesScript, Reports}
 use Rattle.varsvc.specs.Told.{Told}
 
@@ -66,7 +67,7 @@ no_refusal (Some bytes) size text is refused =
 no_report : (told : Told) (lacking : Bool) (text : List ℕ) → IsNoScript told.input → Reports told lacking text → ⊥
 no_report told lacking text is reports = from told.input is reports.1.script
   where
-    from : (input : Option (List ℕ)) → IsNoScript input → IfSome input (λ i. script_of i ≡ Ok (calls_of reports.0 ∷ [])) → ⊥
+    from : (input : Option (List ℕ)) → IsNoScript input → IfSome input (λ i. script_of i ≡ Ok (map calls_of reports.0)) → ⊥
     from None is script = is
     from (Some bytes) is script = true≢false (sym (subst (λ r. IsErr r) script is))
 
@@ -104,6 +105,24 @@ verdict_run told status j = (
       (⊎_elim (λ h. absurd (no_script told.input j.text is.1 h.1)) (⊎_elim (λ h. inl (h.0 ∙ sym is.0)) inr))) j.ended),
 )
 
+-- a script with a schedule that is accepted is not refused, and one that is refused is not played
+no_play_refusal : (input : Option (List ℕ)) (text : List ℕ) → IsPlayScript input → RefusesPlay input text → ⊥
+no_play_refusal None text is refused = is
+no_play_refusal (Some bytes) text is refused = true≢false (sym (subst (λ r. IsOk r) refused.1 is))
+
+no_play : (input : Option (List ℕ)) (text : List ℕ) → IsNoPlayScript input → Plays input text → ⊥
+no_play None text is plays = is
+no_play (Some bytes) text is plays = true≢false (sym (subst (λ r. IsErr r) plays.script is))
+
+verdict_play : (input : Option (List ℕ)) (status : ℕ) → IsJudged (play_row input) status → IsVerdict (play_row input) status
+verdict_play input status j = (
+  λ is. ⊎_elim (λ h. inl h.0)
+      (⊎_elim (λ h. absurd h.1) (⊎_elim (λ h. absurd (no_play_refusal input j.text is h.1)) (⊎_elim (λ h. absurd h.1) inr))) j.ended,
+  λ refusal is.
+      ⊎_elim (λ h. absurd (no_play input j.text is.1 h.1))
+      (⊎_elim (λ h. absurd h.1) (⊎_elim (λ h. inl (h.0 ∙ sym is.0)) (⊎_elim (λ h. absurd h.1) inr))) j.ended,
+)
+
 verdict_inspection : (what : Inspection) (image : Option (List ℕ)) (size status : ℕ) → IsJudged (inspection_row what image size) status
     → IsVerdict (inspection_row what image size) status
 verdict_inspection what image size status j = (
@@ -138,6 +157,7 @@ verdict_usage fault status j = (
 pub all_judged : (asked : Result Order UsageFault) (told : Told) (counts : Counts) (status : ℕ) (old new : Option (List ℕ))
     → Prints (row asked told) counts status old new → IsCalm (row asked told) counts → IsVerdict (row asked told) status
 all_judged (Ok (order.Run name)) told counts status old new printed calm = verdict_run told status (judged _ counts status old new printed calm)
+all_judged (Ok order.Play) told counts status old new printed calm = verdict_play told.input status (judged _ counts status old new printed calm)
 all_judged (Ok (order.List name)) told counts status old new printed calm =
     verdict_inspection inspection.Listing told.image told.size status (judged _ counts status old new printed calm)
 all_judged (Ok (order.Check name)) told counts status old new printed calm =

@@ -1,4 +1,5 @@
 pub mod Positions
+pub mod Processors
 pub mod Running
 pub mod Closing
 pub mod Refusals
@@ -6,12 +7,13 @@ pub mod Inputs
 pub mod Scripts
 pub mod PlannedTexts
 pub mod Plans
+pub mod Plays
 pub mod Runs
 pub mod Volumes
 pub mod Usages
 pub mod Judged
 pub mod OneSession
-pub mod OneProcessor
+pub mod Stepped
 pub mod BlankImages
 pub mod Streams
 pub mod Cli

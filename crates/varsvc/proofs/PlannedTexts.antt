@@ -1,5 +1,5 @@
 -- The texts that go with statuses.
-use Rattle.std.proofs.Common.{◌≡◌, ◌⊎◌, ℕ, List, refl, inl, inr, arith}
+use Rattle.std.proofs.Common.{◌⊎◌, ℕ, List, refl, inl, inr, arith}
 use Rattle.std.specs.Prelude.{IsTrue}
 use Rattle.varsvc.specs.FaultLines.{device_line, input_line, memory_line}
 use Rattle.varsvc.specs.Outcome.{IsText, LacksMemory, Row}

@@ -1,5 +1,5 @@
 -- From the refusal of an opening to the line that is printed.
-use Rattle.std.proofs.Common.{◌≡◌, ◌≢◌, ◌⊎◌, inl, inr, ⊎_elim, ℕ, Bool, true, false, List, length, Option, Some, None, Result, Ok, Err, IsOk, IfSome, IsSomeAnd, refl, sym, ap, subst, ◌∙◌, arith}
+use Rattle.std.proofs.Common.{◌≡◌, ◌≢◌, inl, inr, ⊎_elim, ℕ, Bool, true, false, List, Option, Some, None, Result, Ok, Err, IsOk, IfSome, IsSomeAnd, refl, sym, ap, subst}
 use Rattle.std.proofs.lemmas.Bool.{cases_eq}
 use Rattle.flash_dev.proofs.Moments.{stays_none, stays_since}
 use Rattle.flash_dev.specs.declared.geometry.Geometry.{Geometry}
@@ -11,7 +11,6 @@ use Rattle.ftw_mount.specs.Mount.{content_geometry}
 use Rattle.nv_store.specs.declared.load_fault.LoadWhy.{LoadWhy}
 use Rattle.nv_store.specs.declared.load_fault.LoadWhy.TheVariants.{Image, ForeignWork, Device, OutOfMemory}
 use Rattle.nv_store.specs.Opening.{HasLoadCause, IsByImage, IsOpeningLeft, refusal_by, refusal_of}
-use Rattle.outside.specs.Faults.{HasRisen}
 use Rattle.var_types.specs.declared.call.Call.{Call}
 use Rattle.var_types.specs.declared.work_state.WorkState.{WorkState}
 use Rattle.var_types.specs.declared.work_state.WorkState.TheVariants.{Clean, Pending, Unclean}
@@ -20,7 +19,7 @@ use Rattle.var_types.specs.WorkArea.{is_blank, work_state}
 use Rattle.varsvc.specs.declared.plan.Plan.{Plan}
 use Rattle.varsvc.specs.declared.plan.Plan.TheVariants.{Print, Stream, InputFault, DeviceFault, NoMemory}
 use Rattle.varsvc.specs.FaultLines.{foreign_line, image_line}
-use Rattle.varsvc.specs.Images.{IsFaultOf, IsForeignImage, RefusesList}
+use Rattle.varsvc.specs.Images.{RefusesList}
 use Rattle.varsvc.specs.Opened.{PlansUnopened}
 use Rattle.varsvc.specs.Plan.{PlansLine}
 use Rattle.varsvc.specs.RunPlan.{PlansRun}
@@ -130,25 +129,25 @@ pub opening_none : (image : List ℕ) → IsOpeningLeft image image
 opening_none image = record { kept = refl; headers = refl; sound = λ sound. sound; idle = λ order. refl }
 
 -- the plan for an image that isn't opened is one of a run
-module _ (told : Told) (calls : List Call) where
-  line_plan : (line : List ℕ) (plan : Plan) → PlansLine 4 line plan → RefusesList told.image told.size line → LeavesUntouched told → PlansRun told calls plan
+module _ (told : Told) (script : List (List Call)) where
+  line_plan : (line : List ℕ) (plan : Plan) → PlansLine 4 line plan → RefusesList told.image told.size line → LeavesUntouched told → PlansRun told script plan
   line_plan line (Print s t) plans refuses untouched = (plans.0, subst (RefusesList told.image told.size) (sym plans.1) refuses, untouched)
   line_plan line (Stream streamed) plans refuses untouched = absurd plans
   line_plan line InputFault plans refuses untouched = absurd plans
   line_plan line DeviceFault plans refuses untouched = absurd plans
   line_plan line NoMemory plans refuses untouched = untouched
 
-pub unopened_plan : (told : Told) (calls : List Call) (why : LoadWhy) (plan : Plan) → PlansUnopened why plan
+pub unopened_plan : (told : Told) (script : List (List Call)) (why : LoadWhy) (plan : Plan) → PlansUnopened why plan
     → (IsByImage (Some why) → IfSome told.image (λ cells. refusal_of cells ≡ Some why))
     → (told.size ≢ 131072 → why ≢ OutOfMemory → why ≡ Image (image.ImageSize told.size 131072)) → why ≢ Image image.Device
-    → (why ≢ Device → LeavesUntouched told) → LeavesVariables told → HasLoadCause told.faults told.faults_after (Some why) → PlansRun told calls plan
-unopened_plan told calls (Image fault) plan plans refused by_size other untouched variables cause =
-    line_plan told calls (image_line fault) plan plans
+    → (why ≢ Device → LeavesUntouched told) → LeavesVariables told → HasLoadCause told.faults told.faults_after (Some why) → PlansRun told script plan
+unopened_plan told script (Image fault) plan plans refused by_size other untouched variables cause =
+    line_plan told script (image_line fault) plan plans
     (refused_fault told.image told.size fault (refused tt) (λ n. by_size n (λ e. cc)) (λ e. other (ap Image e))) (untouched (λ e. cc))
-unopened_plan told calls ForeignWork plan plans refused by_size other untouched variables cause =
-    line_plan told calls foreign_line plan plans
+unopened_plan told script ForeignWork plan plans refused by_size other untouched variables cause =
+    line_plan told script foreign_line plan plans
     (refused_foreign told.image told.size (refused tt) (λ n. by_size n (λ e. cc))) (untouched (λ e. cc))
-unopened_plan told calls Device plan plans refused by_size other untouched variables cause =
-    subst (PlansRun told calls) (sym plans) (variables, cause.failed refl)
-unopened_plan told calls OutOfMemory plan plans refused by_size other untouched variables cause =
-    subst (PlansRun told calls) (sym plans) (untouched (λ e. cc))
+unopened_plan told script Device plan plans refused by_size other untouched variables cause =
+    subst (PlansRun told script) (sym plans) (variables, cause.failed refl)
+unopened_plan told script OutOfMemory plan plans refused by_size other untouched variables cause =
+    subst (PlansRun told script) (sym plans) (untouched (λ e. cc))

@@ -1,5 +1,5 @@
 -- A run of calls on the writer's side: what one call more makes of it.
-use Rattle.std.proofs.Common.{◌≡◌, ◌≢◌, ◌⊎◌, inl, inr, ⊎_elim, ℕ, ◌+◌, ◌-◌, ◌^◌, ◌<◌, ◌≤◌, Bool, true, false, List, [], ◌∷◌, ◌++◌, length, map, take, filter, Option, Some, None, IfSome, refl, sym, ap, subst, ◌∙◌, arith, true≢false, if◌then◌else◌}
+use Rattle.std.proofs.Common.{◌≡◌, ◌≢◌, ◌⊎◌, inl, inr, ⊎_elim, ℕ, ◌+◌, ◌-◌, ◌^◌, ◌≤◌, Bool, true, false, List, [], ◌∷◌, ◌++◌, length, take, filter, Option, None, IfSome, refl, sym, ap, subst, ◌∙◌, arith, true≢false, if◌then◌else◌}
 use Rattle.std.proofs.lemmas.Bool.{cases_Bool, cases_lt}
 use Rattle.std.proofs.lemmas.List.{append-nil, length-append, length-map, map-append, take-append-le, take_all}
 use Rattle.std.proofs.lemmas.List.Elements.{filter-append}
@@ -8,9 +8,9 @@ use Rattle.flash_dev.specs.Moments.{Stays}
 use Rattle.mm_writer.specs.Outcome.{Grows, HasReplyCause, IsAnswered, IsKeptBy, IsSetLeft, entry_after}
 use Rattle.mm_writer.specs.Side.{Side, first_state, state_of}
 use Rattle.outside.specs.Faults.{HasRisen}
+use Rattle.report_text.specs.Session.{history_from}
 use Rattle.var_trace.specs.declared.change.Change.{Change}
 use Rattle.var_trace.specs.StoresAfter.{history_in}
-use Rattle.var_types.proofs.LegalSessions.{changes_from-more}
 use Rattle.var_types.proofs.Sessions.{run-append}
 use Rattle.var_types.specs.declared.answered.Answered.{Answered}
 use Rattle.var_types.specs.declared.answered.Route.TheVariants.{Plain}
@@ -23,16 +23,16 @@ use Rattle.var_types.specs.declared.reply.SetReply.{SetReply}
 use Rattle.var_types.specs.declared.reply.SetReply.TheVariants as set
 use Rattle.var_types.specs.declared.store.Store.TheVariants.{NonVolatile}
 use Rattle.var_types.specs.DeviceErrors.{IsReplyIn, is_device_error}
-use Rattle.var_types.specs.History.{Entry, after, run}
+use Rattle.var_types.specs.History.{Entry, run}
 use Rattle.var_types.specs.Kept.{kept}
 use Rattle.var_types.specs.Laws.{LegalSessionsGrow}
-use Rattle.var_types.specs.Session.{IsAnsweredAfter, IsLegalSession, changes_from, entry_of, history_of}
-use Rattle.var_types.specs.Set.{set_step}
+use Rattle.var_types.specs.Session.{IsAnsweredAfter, IsLegalSession, changes_from, entry_of}
 use Rattle.var_types.specs.State.{State, start}
 use Rattle.var_types.specs.Step.{is_change, step}
 use Rattle.var_types.specs.Stores.{Stores, map_in, part}
-use Rattle.varsvc.specs.Running.{HasFlashCause, HasRun, IsCallLeft, IsFrontLeft, Serves}
-use Rattle.varsvc.specs.Runs.{failures}
+use Rattle.varsvc.specs.Running.{HasRun, IsCallLeft, IsFrontLeft, Serves}
+use Rattle.varsvc.specs.Runs.{AreInTurn, all_answered, failures}
+use Rattle.varsvc.proofs.Processors.{answered-more, answered-next, history_from-more, history_from-next, in_turn-behind, legal-next}
 
 -- ---- the side behind a change
 
@@ -63,12 +63,12 @@ record IsBehind (old new : Side) : Type 0 where
   more : List Entry
   history : history_in new.log ≡ history_in old.log ++ more
 
-behind : (old new : Side) (index : ℕ) (call : Call) (reply : Reply) → IsAnswered old new 0 index call reply → IsBehind old new
-behind old new index call reply a =
+behind : (old new : Side) (processor index : ℕ) (call : Call) (reply : Reply) → IsAnswered old new processor index call reply → IsBehind old new
+behind old new processor index call reply a =
     ⊎_elim
     (λ yes.
     let g = a.change yes in
-    record { first = first_same old new _ g; more = entry_after old 0 index call ∷ []; history = history_grown old new _ g })
+    record { first = first_same old new _ g; more = entry_after old processor index call ∷ []; history = history_grown old new _ g })
     (λ no.
     let e = a.same no in
     record { first = ap first_state e; more = []; history = ap (λ (s : Side). history_in s.log) e ∙ sym (append-nil (history_in old.log)) })
@@ -133,10 +133,11 @@ module _ {F : Type 0} {fault_count moment : F → ℕ} {left_since : F → ℕ �
   -- ---- one call
 
   -- a call that leaves the flash as it is
-  pub serves_quiet : (old new : F × (Option (List ℕ) × Side)) (index : ℕ) (call : Call) (reply : Reply) → IsAnswered old.1.1 new.1.1 0 index call reply
+  pub serves_quiet : (old new : F × (Option (List ℕ) × Side)) (processor index : ℕ) (call : Call) (reply : Reply)
+      → IsAnswered old.1.1 new.1.1 processor index call reply
       → is_device_error reply ≡ false → new.0 ≡ old.0 → new.1.0 ≡ old.1.0 → (old.1.0 ≡ None → IfSome (holds old.0) (IsKeptBy old.1.1))
-      → Serves fault_count moment left_since holds old new index call reply
-  serves_quiet old new index call reply answered calm same doubt kept = record {
+      → Serves fault_count moment left_since holds old new processor index call reply
+  serves_quiet old new processor index call reply answered calm same doubt kept = record {
     answered = answered;
     cause = record {
       done = λ _. ap fault_count same;
@@ -151,18 +152,18 @@ module _ {F : Type 0} {fault_count moment : F → ℕ} {left_since : F → ℕ �
   }
 
   -- a read
-  pub serves_read : (e : F × (Option (List ℕ) × Side)) (index : ℕ) (call : Call) (reply : Reply) → IsReplyIn (state_of e.1.1) call reply
+  pub serves_read : (e : F × (Option (List ℕ) × Side)) (processor index : ℕ) (call : Call) (reply : Reply) → IsReplyIn (state_of e.1.1) call reply
       → is_change reply ≡ false → is_device_error reply ≡ false → (e.1.0 ≡ None → IfSome (holds e.0) (IsKeptBy e.1.1))
-      → Serves fault_count moment left_since holds e e index call reply
-  serves_read e index call reply right still calm kept =
-      serves_quiet e e index call reply
+      → Serves fault_count moment left_since holds e e processor index call reply
+  serves_read e processor index call reply right still calm kept =
+      serves_quiet e e processor index call reply
       (record { right = right; change = λ h. absurd (true≢false (sym h ∙ still)); same = λ _. refl }) calm refl refl kept
 
-  module _ (old new : F × (Option (List ℕ) × Side)) (index : ℕ) (call : SetCall) (kept : old.1.0 ≡ None → IfSome (holds old.0) (IsKeptBy old.1.1)) where
+  module _ (old new : F × (Option (List ℕ) × Side)) (processor index : ℕ) (call : SetCall) (kept : old.1.0 ≡ None → IfSome (holds old.0) (IsKeptBy old.1.1)) where
     -- a set that made its change
-    set_made : IsAnswered old.1.1 new.1.1 0 index (SetCalled call) (SetReplied set.Ok) → (old.1.0 ≡ None → new.1.0 ≡ None)
+    set_made : IsAnswered old.1.1 new.1.1 processor index (SetCalled call) (SetReplied set.Ok) → (old.1.0 ≡ None → new.1.0 ≡ None)
         → (old.1.0 ≡ None → Stays (IsSetLeft old.1.1 call) moment left_since holds old.0 new.0)
-        → fault_count new.0 ≡ fault_count old.0 → Serves fault_count moment left_since holds old new index (SetCalled call) (SetReplied set.Ok)
+        → fault_count new.0 ≡ fault_count old.0 → Serves fault_count moment left_since holds old new processor index (SetCalled call) (SetReplied set.Ok)
     unfolding step
     set_made answered sure stays same = record {
       answered = answered;
@@ -176,8 +177,8 @@ module _ {F : Type 0} {fault_count moment : F → ℕ} {left_since : F → ℕ �
     }
 
     -- one whose call of the flash failed
-    set_failed : IsAnswered old.1.1 new.1.1 0 index (SetCalled call) (SetReplied set.Device) → HasRisen (fault_count old.0) (fault_count new.0)
-        → fault_count old.0 ≤ fault_count new.0 → Serves fault_count moment left_since holds old new index (SetCalled call) (SetReplied set.Device)
+    set_failed : IsAnswered old.1.1 new.1.1 processor index (SetCalled call) (SetReplied set.Device) → HasRisen (fault_count old.0) (fault_count new.0)
+        → fault_count old.0 ≤ fault_count new.0 → Serves fault_count moment left_since holds old new processor index (SetCalled call) (SetReplied set.Device)
     set_failed answered rose low = record {
       answered = answered;
       cause = record { done = λ h. absurd (true≢false h); rose = λ _. rose; never_falls = low };
@@ -186,51 +187,76 @@ module _ {F : Type 0} {fault_count moment : F → ℕ} {left_since : F → ℕ �
     }
 
     -- any set
-    pub serves_set : (reply : SetReply) → IsAnswered old.1.1 new.1.1 0 index (SetCalled call) (SetReplied reply)
+    pub serves_set : (reply : SetReply) → IsAnswered old.1.1 new.1.1 processor index (SetCalled call) (SetReplied reply)
         → (reply ≢ set.Ok → reply ≢ set.Device → new.0 ≡ old.0) → (reply ≢ set.Ok → reply ≢ set.Device → new.1.0 ≡ old.1.0)
         → (reply ≡ set.Ok → old.1.0 ≡ None → new.1.0 ≡ None)
         → (old.1.0 ≡ None → Stays (IsSetLeft old.1.1 call) moment left_since holds old.0 new.0)
         → HasReplyCause (fault_count old.0) (fault_count new.0) reply
-        → Serves fault_count moment left_since holds old new index (SetCalled call) (SetReplied reply)
+        → Serves fault_count moment left_since holds old new processor index (SetCalled call) (SetReplied reply)
     serves_set set.Ok answered same doubt sure stays cause = set_made answered (sure refl) stays (cause.done (λ e. cc))
     serves_set set.Same answered same doubt sure stays cause =
-        serves_quiet old new index (SetCalled call) _ answered refl (same (λ e. cc) (λ e. cc)) (doubt (λ e. cc) (λ e. cc)) kept
+        serves_quiet old new processor index (SetCalled call) _ answered refl (same (λ e. cc) (λ e. cc)) (doubt (λ e. cc) (λ e. cc)) kept
     serves_set (set.Refused reason) answered same doubt sure stays cause =
-        serves_quiet old new index (SetCalled call) _ answered refl (same (λ e. cc) (λ e. cc)) (doubt (λ e. cc) (λ e. cc)) kept
+        serves_quiet old new processor index (SetCalled call) _ answered refl (same (λ e. cc) (λ e. cc)) (doubt (λ e. cc) (λ e. cc)) kept
     serves_set set.Device answered same doubt sure stays cause = set_failed answered (cause.failed refl) cause.never_falls
     serves_set set.OutOfMemory answered same doubt sure stays cause =
-        serves_quiet old new index (SetCalled call) _ answered refl (same (λ e. cc) (λ e. cc)) (doubt (λ e. cc) (λ e. cc)) kept
+        serves_quiet old new processor index (SetCalled call) _ answered refl (same (λ e. cc) (λ e. cc)) (doubt (λ e. cc) (λ e. cc)) kept
+
+  -- ---- one processor more, which has made no call
+
+  pub run_next : (first : State) (flash : F) (engine : F × (Option (List ℕ) × Side)) (processors : List (List Answered))
+      → HasRun fault_count moment left_since holds first flash engine processors
+      → HasRun fault_count moment left_since holds first flash engine (processors ++ [] ∷ [])
+  run_next first flash engine processors ran =
+      let history = history_from-next processors in
+      let answered = answered-next processors in
+      record {
+        opened = ran.opened;
+        log = ran.log ∙ sym history;
+        legal =
+            subst (λ (es : List Entry). IsLegalSession first es (processors ++ [] ∷ [])) (sym history)
+            (legal-next first (history_from 0 processors) processors ran.legal);
+        in_turn = subst (AreInTurn 0) (sym answered) ran.in_turn;
+        calm = λ none. ran.calm (sym (ap failures answered) ∙ none);
+        failed = subst (λ (xs : List Answered). (fault_count flash + failures xs ≤ fault_count engine.0) ⊎ (2 ^ 64 - 1 ≤ fault_count engine.0)) (sym answered) ran.failed;
+        never_falls = ran.never_falls;
+        sure = ran.sure;
+        at_any_moment = ran.at_any_moment;
+      }
 
   -- ---- one call more
 
-  module _ (grows : LegalSessionsGrow) (first : State) (flash : F) (old new : F × (Option (List ℕ) × Side)) (xs : List Answered) (index place : ℕ) (call : Call) (reply : Reply) (ran : HasRun fault_count moment left_since holds first flash old xs) (at : index ≡ length xs) (made : place ≡ length old.1.1.log) (served : Serves fault_count moment left_since holds old new index call reply) where
+  module _ (grows : LegalSessionsGrow) (first : State) (flash : F) (old new : F × (Option (List ℕ) × Side)) (front : List (List Answered)) (xs : List Answered) (processor index place : ℕ) (call : Call) (reply : Reply) (ran : HasRun fault_count moment left_since holds first flash old (front ++ xs ∷ [])) (turn : processor ≡ length front) (at : index ≡ length xs) (made : place ≡ length old.1.1.log) (served : Serves fault_count moment left_since holds old new processor index call reply) where
     abbrev answer : Answered
     answer = record { call = call; place = place; route = Plain; reply = reply }
 
-    so_far : length (history_of xs) ≡ length old.1.1.log
+    -- the processors before the call and behind it
+    abbrev before : List (List Answered)
+    before = front ++ xs ∷ []
+
+    abbrev after_it : List (List Answered)
+    after_it = front ++ (xs ++ answer ∷ []) ∷ []
+
+    so_far : length (history_from 0 before) ≡ length old.1.1.log
     so_far = ap (λ (es : List Entry). length es) (sym ran.log) ∙ length_history old.1.1
 
-    -- the entries of the call
-    entries : List Entry
-    entries = changes_from 0 (length xs) (answer ∷ [])
+    history_more : history_from 0 after_it ≡ history_from 0 before ++ changes_from (length front) (length xs) (answer ∷ [])
+    history_more = history_from-more front xs answer
 
-    history_more : history_of (xs ++ answer ∷ []) ≡ history_of xs ++ changes_from 0 (length xs) (answer ∷ [])
-    history_more = sym (changes_from-more 0 0 (length xs) xs answer (omega arith))
-
-    log_more : history_in new.1.1.log ≡ history_of xs ++ changes_from 0 (length xs) (answer ∷ [])
+    log_more : history_in new.1.1.log ≡ history_from 0 before ++ changes_from (length front) (length xs) (answer ∷ [])
     log_more =
         ⊎_elim
         (λ yes.
         history_grown old.1.1 new.1.1 _ (served.answered.change yes)
-        ∙ ap (λ (es : List Entry). es ++ entry_after old.1.1 0 index call ∷ []) ran.log
-        ∙ ap (λ (e : Entry). history_of xs ++ e ∷ []) (λ i. record { number = sym made i; processor = 0; index = at i; call = call })
-        ∙ ap (λ (b : Bool). history_of xs ++ (if b then entry_of 0 (length xs) answer ∷ [] else [])) (sym yes))
+        ∙ ap (λ (es : List Entry). es ++ entry_after old.1.1 processor index call ∷ []) ran.log
+        ∙ ap (λ (e : Entry). history_from 0 before ++ e ∷ []) (λ i. record { number = sym made i; processor = turn i; index = at i; call = call })
+        ∙ ap (λ (b : Bool). history_from 0 before ++ (if b then entry_of (length front) (length xs) answer ∷ [] else [])) (sym yes))
         (λ no.
-        ap (λ (s : Side). history_in s.log) (served.answered.same no) ∙ ran.log ∙ sym (append-nil (history_of xs))
-        ∙ ap (λ (b : Bool). history_of xs ++ (if b then entry_of 0 (length xs) answer ∷ [] else [])) (sym no))
+        ap (λ (s : Side). history_in s.log) (served.answered.same no) ∙ ran.log ∙ sym (append-nil (history_from 0 before))
+        ∙ ap (λ (b : Bool). history_from 0 before ++ (if b then entry_of (length front) (length xs) answer ∷ [] else [])) (sym no))
         (cases_Bool (is_change reply))
 
-    answered_after : IsAnsweredAfter first (history_of xs) answer
+    answered_after : IsAnsweredAfter first (history_from 0 before) answer
     unfolding state_of
     answered_after = record {
       place = made ∙ sym so_far;
@@ -240,13 +266,22 @@ module _ {F : Type 0} {fault_count moment : F → ℕ} {left_since : F → ℕ �
           (subst (λ (s : State). IsReplyIn (run s (history_in old.1.1.log)) call reply) ran.opened served.answered.right);
     }
 
-    legal_more : IsLegalSession first (history_of (xs ++ answer ∷ [])) ((xs ++ answer ∷ []) ∷ [])
+    legal_more : IsLegalSession first (history_from 0 after_it) after_it
     legal_more =
-        subst (λ (es : List Entry). IsLegalSession first es ((xs ++ answer ∷ []) ∷ [])) (sym history_more)
-        (grows first (history_of xs) [] [] xs answer ran.legal answered_after)
+        subst (λ (es : List Entry). IsLegalSession first es after_it) (sym history_more)
+        (grows first (history_from 0 before) front [] xs answer ran.legal answered_after)
+
+    all_more : all_answered after_it ≡ all_answered before ++ answer ∷ []
+    all_more = answered-more front xs answer
+
+    in_turn_more : AreInTurn 0 (all_answered after_it)
+    in_turn_more = subst (AreInTurn 0) (sym all_more) (in_turn-behind before answer ran.in_turn (made ∙ sym so_far))
+
+    count_more : failures (all_answered after_it) ≡ failures (all_answered before) + added (is_device_error reply)
+    count_more = ap failures all_more ∙ failures-snoc (all_answered before) answer
 
     is_behind : IsBehind old.1.1 new.1.1
-    is_behind = behind old.1.1 new.1.1 index call reply served.answered
+    is_behind = behind old.1.1 new.1.1 processor index call reply served.answered
 
     -- where no call of the flash has failed in the end, none had before, nor does this reply say so
     not_failed : ¬ HasRisen (fault_count flash) (fault_count new.0) → is_device_error reply ≡ false
@@ -254,17 +289,17 @@ module _ {F : Type 0} {fault_count moment : F → ℕ} {left_since : F → ℕ �
         ⊎_elim (λ yes. absurd (not_within _ _ _ not ran.never_falls served.cause.never_falls (served.cause.rose yes))) (λ no. no)
         (cases_Bool (is_device_error reply))
 
-    calm_more : failures (xs ++ answer ∷ []) ≡ 0 → fault_count new.0 ≡ fault_count flash
+    calm_more : failures (all_answered after_it) ≡ 0 → fault_count new.0 ≡ fault_count flash
     calm_more none =
-        let count = failures-snoc xs answer in
+        let count = count_more in
         ⊎_elim
         (λ yes. let one = ap added yes in absurd (omega (arith, none, count, one)))
         (λ no. let zero = ap added no in served.cause.done no ∙ ran.calm (omega (arith, none, count, zero)))
         (cases_Bool (is_device_error reply))
 
-    failed_more : (fault_count flash + failures (xs ++ answer ∷ []) ≤ fault_count new.0) ⊎ (2 ^ 64 - 1 ≤ fault_count new.0)
+    failed_more : (fault_count flash + failures (all_answered after_it) ≤ fault_count new.0) ⊎ (2 ^ 64 - 1 ≤ fault_count new.0)
     failed_more =
-        let count = failures-snoc xs answer in
+        let count = count_more in
         let low = served.cause.never_falls in
         ⊎_elim
         (λ bound.
@@ -277,11 +312,12 @@ module _ {F : Type 0} {fault_count moment : F → ℕ} {left_since : F → ℕ �
         (λ most. inr (omega (arith, most, low)))
         ran.failed
 
-    pub run_more : HasRun fault_count moment left_since holds first flash new (xs ++ answer ∷ [])
+    pub run_more : HasRun fault_count moment left_since holds first flash new after_it
     run_more = record {
       opened = is_behind.first ∙ ran.opened;
       log = log_more ∙ sym history_more;
       legal = legal_more;
+      in_turn = in_turn_more;
       calm = calm_more;
       failed = failed_more;
       never_falls = let a = ran.never_falls in let b = served.cause.never_falls in omega (arith, a, b);

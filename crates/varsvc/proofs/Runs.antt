@@ -1,12 +1,12 @@
 -- From the plan of a run to the text of its status.
-use Rattle.std.proofs.Common.{◌≡◌, ◌≢◌, ◌⊎◌, ℕ, ◌+◌, ◌<◌, ◌≤◌, Bool, true, false, List, [], ◌∷◌, length, map, Option, Some, None, Result, Ok, Err, IfSome, IsOk, refl, sym, ap, ◌∙◌, subst, inl, inr, ⊎_elim, arith, lit<, if◌then◌else◌, All, ◌||◌}
+use Rattle.std.proofs.Common.{◌≡◌, ◌≢◌, ℕ, ◌+◌, ◌<◌, ◌≤◌, Bool, true, false, List, [], ◌∷◌, length, map, Option, Some, None, Result, Ok, Err, IfSome, IsOk, refl, sym, ap, ◌∙◌, subst, inr, ⊎_elim, arith, lit<, if◌then◌else◌, All, ◌||◌}
 use Rattle.std.specs.List.{list_any}
 use Rattle.std.proofs.lemmas.Bool.{cases_lt}
 use Rattle.std.proofs.lemmas.List.Elements.{All-cons, All-head, All-nil, All-tail}
 use Rattle.outside.specs.Faults.{HasRisen}
 use Rattle.report_text.specs.Fitting.{IsFitting}
 use Rattle.report_text.specs.Report.{session_text}
-use Rattle.report_text.specs.Session.{report_of}
+use Rattle.report_text.specs.Session.{history_from, report_of}
 use Rattle.report_text.specs.Values.{AnswerHasValues, HaveValues}
 use Rattle.script_text.specs.declared.script_fault.ScriptFault.{ScriptFault}
 use Rattle.script_text.specs.Script.{script_of, most_script_bytes}
@@ -18,7 +18,7 @@ use Rattle.var_types.specs.declared.call.Call.{Call}
 use Rattle.var_types.proofs.ReplyKinds.{IsOfKind-reply}
 use Rattle.var_types.specs.History.{Entry, after}
 use Rattle.var_types.specs.Laws.{RightRepliesFit}
-use Rattle.var_types.specs.Session.{AreRight, history_of}
+use Rattle.var_types.specs.Session.{AreAllRight, AreRight}
 use Rattle.var_types.specs.State.{State}
 use Rattle.var_types.specs.Step.{IsOfKind}
 use Rattle.varsvc.specs.declared.plan.Plan.{Plan}
@@ -29,7 +29,7 @@ use Rattle.varsvc.specs.Outcome.{FlashFails, IsText, run_row}
 use Rattle.varsvc.specs.Plan.{HasPlanValues, IsStreamed, PlansLine, lacks_in, report_status, status_of, text_of}
 use Rattle.varsvc.specs.FaultLines.{script_line}
 use Rattle.varsvc.specs.RunPlan.{IsRunOf, PlansRun}
-use Rattle.varsvc.specs.Runs.{LeavesUntouched, RefusesScript, Reports, Runs, SaysSame, WasRun, lacks_any}
+use Rattle.varsvc.specs.Runs.{LeavesUntouched, RefusesScript, Reports, Runs, SaysSame, WasRun, lacks_any, lacks_one}
 use Rattle.varsvc.specs.Told.{Told}
 use Rattle.varsvc.proofs.PlannedTexts.{text_device, text_done, text_image, text_lacking, text_memory, text_script}
 use Rattle.varsvc.proofs.Plans.{line_text}
@@ -38,7 +38,7 @@ use Rattle.varsvc.proofs.Scripts.{script_of-long, script_of-take}
 -- ---- replies that fit their calls
 
 -- replies that are right at their places are of their calls' kinds
-kinds : RightRepliesFit → (state : State) (history : List Entry) (processor index : ℕ) (xs : List Answered) → AreRight state history processor index xs
+pub kinds : RightRepliesFit → (state : State) (history : List Entry) (processor index : ℕ) (xs : List Answered) → AreRight state history processor index xs
     → All (λ a. IsOfKind a.call a.reply) xs
 kinds fit state history processor index [] right = All-nil (λ (a : Answered). IsOfKind a.call a.reply)
 kinds fit state history processor index (x ∷ xs) right =
@@ -46,7 +46,7 @@ kinds fit state history processor index (x ∷ xs) right =
     (kinds fit state history processor (index + 1) xs right.1)
 
 -- replies of their calls' kinds that have values
-all_fitting : (xs : List Answered) → All (λ a. IsOfKind a.call a.reply) xs → All AnswerHasValues xs → All IsFitting xs
+pub all_fitting : (xs : List Answered) → All (λ a. IsOfKind a.call a.reply) xs → All AnswerHasValues xs → All IsFitting xs
 all_fitting [] kinds values = All-nil IsFitting
 all_fitting (x ∷ xs) kinds values =
     All-cons IsFitting x xs (All-head (λ (a : Answered). IsOfKind a.call a.reply) x xs kinds, All-head AnswerHasValues x xs values)
@@ -56,55 +56,57 @@ all_fitting (x ∷ xs) kinds values =
 pub right_fits : RightRepliesFit
 right_fits state history place processor index call reply right = IsOfKind-reply (after state history place) call reply right.reply_is
 
+-- so are those of several processors
+all_kinds : RightRepliesFit → (state : State) (history : List Entry) (processor : ℕ) (processors : List (List Answered))
+    → AreAllRight state history processor processors → HaveValues processors → All (All IsFitting) processors
+all_kinds fit state history processor [] right values = All-nil (All IsFitting)
+all_kinds fit state history processor (xs ∷ rest) right values =
+    All-cons (All IsFitting) xs rest
+    (all_fitting xs (kinds fit state history processor 0 xs right.0) (All-head (λ (answered : List Answered). All AnswerHasValues answered) xs rest values))
+    (all_kinds fit state history (processor + 1) rest right.1 (All-tail (λ (answered : List Answered). All AnswerHasValues answered) xs rest values))
+
 -- ---- the plan of a run
 
 -- the report of a session by its answered calls
-report_is : (session : SessionParts) (xs : List Answered) → answers_of session ≡ xs ∷ [] → history_in session.entries.log ≡ history_of xs
-    → session_text (history_in session.entries.log) (answers_of session) ≡ report_of xs
-report_is session xs answers history =
-    ap (λ (h : List Entry). session_text h (answers_of session)) history ∙ ap (session_text (history_of xs)) answers
+report_is : (session : SessionParts) (processors : List (List Answered)) → answers_of session ≡ processors
+    → history_in session.entries.log ≡ history_from 0 processors
+    → session_text (history_in session.entries.log) (answers_of session) ≡ report_of processors
+report_is session processors answers history =
+    ap (λ (h : List Entry). session_text h (answers_of session)) history ∙ ap (session_text (history_from 0 processors)) answers
 
--- some reply of one processor's calls is out of memory, or none
-any_one : (xs : List Answered) → list_any lacks_any (xs ∷ []) ≡ lacks_any xs
-any_one xs = one (lacks_any xs)
-  where
-    one : (b : Bool) → (b || false) ≡ b
-    one true = refl
-    one false = refl
-
+-- some reply of a session is out of memory, or none
 any_of : (processors : List AnsweredCalls)
-    → list_any (λ (answers : AnsweredCalls). lacks_any answers.answered) processors ≡ list_any lacks_any (map (λ (answers : AnsweredCalls). answers.answered) processors)
+    → list_any (λ (answers : AnsweredCalls). lacks_one answers.answered) processors ≡ lacks_any (map (λ (answers : AnsweredCalls). answers.answered) processors)
 any_of [] = refl
-any_of (answers ∷ rest) = ap (λ b. lacks_any answers.answered || b) (any_of rest)
+any_of (answers ∷ rest) = ap (λ b. lacks_one answers.answered || b) (any_of rest)
 
-module _ (fit : RightRepliesFit) (told : Told) (calls : List Call) (script : IfSome told.input (λ input. script_of input ≡ Ok (calls ∷ []))) where
+module _ (fit : RightRepliesFit) (told : Told) (calls : List (List Call)) (script : IfSome told.input (λ input. script_of input ≡ Ok calls)) where
   module _ (session : SessionParts) (run : IsRunOf told calls session) where
-    was_run : WasRun told run.answered
+    was_run : WasRun told run.processors
     was_run = record {
       first = run.first;
       opened = run.opened;
       accepted = run.accepted;
-      script =
-          subst (λ (cs : List Call). IfSome told.input (λ input. script_of input ≡ Ok (cs ∷ []))) (sym run.calls_are) script;
+      script = subst (λ (cs : List (List Call)). IfSome told.input (λ input. script_of input ≡ Ok cs)) (sym run.calls_are) script;
       legal = run.legal;
+      in_turn = run.in_turn;
       leaves = run.leaves;
     }
 
-    reports_told : (lacking : Bool) → HaveValues (answers_of session) → lacks_any run.answered ≡ lacking
+    reports_told : (lacking : Bool) → HaveValues (answers_of session) → lacks_any run.processors ≡ lacking
         → Reports told lacking (session_text (history_in session.entries.log) (answers_of session))
     reports_told lacking values lacks = (
-      run.answered,
+      run.processors,
       was_run,
-      all_fitting run.answered (kinds fit run.first (history_of run.answered) 0 0 run.answered run.legal.right.0)
-          (All-head (λ (answered : List Answered). All AnswerHasValues answered) run.answered [] (subst HaveValues run.by.answers values)),
+      all_kinds fit run.first (history_from 0 run.processors) 0 run.processors run.legal.right (subst HaveValues run.by.answers values),
       lacks,
-      report_is session run.answered run.by.answers run.by.history,
+      report_is session run.processors run.by.answers run.by.history,
     )
 
     session_is_text : HaveValues (answers_of session)
         → IsText (run_row told) (report_status session) (session_text (history_in session.entries.log) (answers_of session))
     session_is_text values =
-        let same = any_of session.processors ∙ ap (list_any lacks_any) run.by.answers ∙ any_one run.answered in
+        let same = any_of session.processors ∙ ap lacks_any run.by.answers in
         elim (lacks_in session)
         as (λ (b : Bool). lacks_in session ≡ b
         → IsText (run_row told) (if b then 8 else 0) (session_text (history_in session.entries.log) (answers_of session))) [
@@ -113,7 +115,7 @@ module _ (fit : RightRepliesFit) (told : Told) (calls : List Call) (script : IfS
         ] refl
 
   -- a script is accepted
-  accepted : (input : Option (List ℕ)) → IfSome input (λ i. script_of i ≡ Ok (calls ∷ [])) → IfSome input (λ i. IsOk (script_of i))
+  accepted : (input : Option (List ℕ)) → IfSome input (λ i. script_of i ≡ Ok calls) → IfSome input (λ i. IsOk (script_of i))
   accepted None is = tt
   accepted (Some bytes) is = subst (λ r. IsOk r) (sym is) refl
 
@@ -121,6 +123,7 @@ module _ (fit : RightRepliesFit) (told : Told) (calls : List Call) (script : IfS
   pub run_text : (plan : Plan) → PlansRun told calls plan → HasPlanValues plan → IsText (run_row told) (status_of plan) (text_of plan)
   run_text (Print s t) (is, refused, untouched) values = subst (λ (n : ℕ). IsText (run_row told) n t) (sym is) (text_image (run_row told) t (accepted told.input script, refused) untouched)
   run_text (Stream (streamed.Report session)) run values = session_is_text session run values
+  run_text (Stream (streamed.Play session left)) planned values = absurd planned
   run_text (Stream (streamed.Listing content)) planned values = absurd planned
   run_text (Stream (streamed.Script number)) planned values = absurd planned
   run_text InputFault planned values = absurd planned
@@ -130,7 +133,8 @@ module _ (fit : RightRepliesFit) (told : Told) (calls : List Call) (script : IfS
   -- where it is streamed, a session was run
   pub run_unprinted : (plan : Plan) → PlansRun told calls plan → IsStreamed plan → Runs told
   run_unprinted (Print s t) planned (streamed, is) = cc
-  run_unprinted (Stream (streamed.Report session)) run is = (run.answered, was_run session run)
+  run_unprinted (Stream (streamed.Report session)) run is = (run.processors, was_run session run)
+  run_unprinted (Stream (streamed.Play session left)) planned is = absurd planned
   run_unprinted (Stream (streamed.Listing content)) planned is = absurd planned
   run_unprinted (Stream (streamed.Script number)) planned is = absurd planned
   run_unprinted InputFault planned is = absurd planned
@@ -143,10 +147,11 @@ other_than n other true e none memory = λ is. memory (sym is ∙ e)
 other_than n other false e none memory = λ is. none (sym is ∙ e)
 
 -- it is no failed read
-pub run_status : (told : Told) (calls : List Call) (plan : Plan) → PlansRun told calls plan → status_of plan ≢ 6
+pub run_status : (told : Told) (calls : List (List Call)) (plan : Plan) → PlansRun told calls plan → status_of plan ≢ 6
 run_status told calls (Print s t) (is, refuses, untouched) = λ e. omega (arith, is, e)
 run_status told calls (Stream (streamed.Report session)) planned =
     other_than (report_status session) 6 (lacks_in session) refl (λ e. omega (arith, e)) (λ e. omega (arith, e))
+run_status told calls (Stream (streamed.Play session left)) planned = absurd planned
 run_status told calls (Stream (streamed.Listing content)) planned = absurd planned
 run_status told calls (Stream (streamed.Script number)) planned = absurd planned
 run_status told calls InputFault planned = absurd planned
@@ -154,7 +159,7 @@ run_status told calls DeviceFault planned = λ e. omega (arith, e)
 run_status told calls NoMemory planned = λ e. omega (arith, e)
 
 -- and a failed call of the flash where the count of those rose
-pub run_fails : (told : Told) (calls : List Call) (plan : Plan) → PlansRun told calls plan
+pub run_fails : (told : Told) (calls : List (List Call)) (plan : Plan) → PlansRun told calls plan
     → FlashFails (run_row told) (status_of plan) told.faults told.faults_after
 run_fails told calls plan planned = record { rose = rose plan planned; stands = λ e. cc }
   where
@@ -162,6 +167,7 @@ run_fails told calls plan planned = record { rose = rose plan planned; stands = 
     rose (Print s t) (is, refuses, untouched) e = absurd (omega (arith, is, e))
     rose (Stream (streamed.Report session)) planned e =
         absurd (other_than (report_status session) 7 (lacks_in session) refl (λ e. omega (arith, e)) (λ e. omega (arith, e)) e)
+    rose (Stream (streamed.Play session left)) planned e = absurd planned
     rose (Stream (streamed.Listing content)) planned e = absurd planned
     rose (Stream (streamed.Script number)) planned e = absurd planned
     rose InputFault planned e = absurd planned

@@ -1,5 +1,5 @@
 -- What is printed while it is written, and what a plan comes to.
-use Rattle.std.proofs.Common.{◌≡◌, ◌≢◌, ◌⊎◌, ℕ, Bool, true, false, List, [], ◌∷◌, ◌++◌, length, decimal, flat_map, Option, refl, sym, ◌∙◌, subst, inl, inr, ⊎_elim, append_assoc, arith, if◌then◌else◌, Result, Ok, Err}
+use Rattle.std.proofs.Common.{◌≡◌, ◌≢◌, ◌⊎◌, ℕ, Bool, true, false, List, [], ◌∷◌, ◌++◌, length, decimal, flat_map, Option, Some, None, refl, sym, ◌∙◌, subst, inl, inr, ⊎_elim, append_assoc, arith, if◌then◌else◌, Result, Ok, Err}
 use Rattle.report_text.specs.Flow.{Flow, PutsThrough, empty}
 use Rattle.report_text.specs.Line.{line_text}
 use Rattle.report_text.specs.declared.word.Word.TheVariants as word
@@ -7,7 +7,7 @@ use Rattle.report_text.specs.Listing.{listing_text, variable_line}
 use Rattle.report_text.specs.Word.{word_text}
 use Rattle.report_text.proofs.Puts.{puts_part, puts_whole}
 use Rattle.image_make.proofs.Scripts.{script_has_bytes}
-use Rattle.var_trace.specs.Session.{answers_of}
+use Rattle.var_trace.specs.Session.{SessionParts, answers_of}
 use Rattle.var_trace.specs.StoresAfter.{history_in}
 use Rattle.var_types.specs.declared.answered.Answered.{Answered}
 use Rattle.var_types.specs.declared.key.Key.{Key}
@@ -19,11 +19,11 @@ use Rattle.varsvc.specs.declared.order.Order.TheVariants as order
 use Rattle.varsvc.specs.declared.plan.Plan.{Plan}
 use Rattle.varsvc.specs.declared.plan.Plan.TheVariants.{Print, Stream, InputFault, DeviceFault, NoMemory}
 use Rattle.varsvc.specs.declared.streamed.Streamed.{Streamed}
-use Rattle.varsvc.specs.declared.streamed.Streamed.TheVariants.{Listing, Report, Script}
+use Rattle.varsvc.specs.declared.streamed.Streamed.TheVariants.{Listing, Play, Report, Script}
 use Rattle.varsvc.specs.declared.usage.UsageFault.{UsageFault}
 use Rattle.varsvc.specs.FaultLines.{memory_line}
 use Rattle.varsvc.specs.Outcome.{Counts, FailsAt, FlashFails, IsPlanned, IsText, LeavesImage, Prints, ReadsInput, Row, row}
-use Rattle.varsvc.specs.Plan.{ComesTo, Gains, HasPlanValues, IsOutcome, IsPrintable, IsStreamed, lacks_in, report_status, status_of, streamed_status, streamed_text, text_of}
+use Rattle.varsvc.specs.Plan.{ComesTo, Gains, HasPlanValues, IsOutcome, IsPrintable, IsStreamed, lacks_in, play_text, report_status, status_of, streamed_status, streamed_text, text_of}
 use Rattle.report_text.specs.Report.{entry_line, history_lines, indexed, processor_lines, session_text}
 use Rattle.varsvc.specs.Told.{Told}
 use Rattle.varsvc.proofs.PlannedTexts.{text_short}
@@ -35,6 +35,7 @@ two_statuses false n e = inl e
 
 streamed_statuses : (s : Streamed) → (streamed_status s ≡ 0) ⊎ (streamed_status s ≡ 8)
 streamed_statuses (Report session) = two_statuses (lacks_in session) (report_status session) refl
+streamed_statuses (Play session left) = inl refl
 streamed_statuses (Listing content) = inl refl
 streamed_statuses (Script number) = inl refl
 
@@ -104,8 +105,18 @@ listing_has_bytes variables e =
     line_has_bytes (word_text word.Variables ∷ decimal (length variables) ∷ [])
     (flat_map variable_line variables ++ line_text (word_text word.End ∷ [])) e
 
+front_has_bytes : (front rest : List ℕ) → front ≢ [] → front ++ rest ≢ []
+front_has_bytes [] rest some e = some refl
+front_has_bytes (x ∷ front) rest some e = cc
+
+play_has_bytes : (session : SessionParts) (left : Option (List ℕ)) → play_text session left ≢ []
+play_has_bytes session None e = report_has_bytes (history_in session.entries.log) (answers_of session) e
+play_has_bytes session (Some content) e =
+    front_has_bytes (session_text (history_in session.entries.log) (answers_of session)) _ (report_has_bytes _ (answers_of session)) e
+
 pub streamed_has_bytes : (s : Streamed) → streamed_text s ≢ []
 streamed_has_bytes (Report session) e = report_has_bytes (history_in session.entries.log) (answers_of session) e
+streamed_has_bytes (Play session left) e = play_has_bytes session left e
 streamed_has_bytes (Listing content) e = listing_has_bytes _ e
 streamed_has_bytes (Script number) e = script_has_bytes number e
 
@@ -233,6 +244,7 @@ module _ (r : Row) (counts : Counts) (plan : Plan) (status : ℕ) (old new : Opt
 -- what prints nothing where all is done has no text then
 pub silent : (asked : Result Order UsageFault) (told : Told) (text : List ℕ) → (row asked told).prints ≡ false → (row asked told).output text → text ≡ []
 silent (Ok (order.Run name)) told text none out = cc
+silent (Ok order.Play) told text none out = cc
 silent (Ok (order.List name)) told text none out = cc
 silent (Ok (order.Check name)) told text none out = cc
 silent (Ok (order.Format name)) told text none out = out.1

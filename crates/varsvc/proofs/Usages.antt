@@ -1,5 +1,5 @@
 -- The text for refused words.
-use Rattle.std.proofs.Common.{◌≡◌, ℕ, List, Result, Ok, Err, refl, sym, subst}
+use Rattle.std.proofs.Common.{◌≡◌, Result, Ok, Err, refl, sym, subst}
 use Rattle.varsvc.specs.declared.order.Order.{Order}
 use Rattle.varsvc.specs.declared.order.Order.TheVariants as order
 use Rattle.varsvc.specs.declared.plan.Plan.{Plan}
@@ -16,6 +16,7 @@ use Rattle.varsvc.proofs.PlannedTexts.{text_memory}
 -- what was not touched is not
 pub row_untouched : (asked : Result Order UsageFault) (told : Told) → LeavesUntouched told → (row asked told).untouched
 row_untouched (Ok (order.Run name)) told same = same
+row_untouched (Ok order.Play) told same = tt
 row_untouched (Ok (order.List name)) told same = tt
 row_untouched (Ok (order.Check name)) told same = tt
 row_untouched (Ok (order.Format name)) told same = tt

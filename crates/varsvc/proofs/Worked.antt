@@ -1,7 +1,7 @@
 -- What the calls of a script come to, by the session that was run.
-use Rattle.std.proofs.Common.{◌≡◌, ◌⊎◌, ◌^◌, ℕ, ◌+◌, ◌-◌, ◌≤◌, Bool, true, false, ◌||◌, List, [], ◌∷◌, length, filter, sum_by, All, Option, None, IfSome, refl, sym, ap, ap₂, subst, ◌∙◌, inl, inr, ⊎_elim, arith, true≢false, if◌then◌else◌}
-use Rattle.std.specs.Prelude.{not}
+use Rattle.std.proofs.Common.{◌≡◌, ◌^◌, ℕ, ◌+◌, ◌-◌, ◌≤◌, Bool, true, false, ◌||◌, List, [], ◌∷◌, length, filter, All, Option, None, IfSome, refl, sym, ap, ap₂, subst, ◌∙◌, inl, ⊎_elim, arith, true≢false, if◌then◌else◌}
 use Rattle.std.proofs.lemmas.Bool.{cases_Bool}
+use Rattle.std.proofs.lemmas.List.{append-nil}
 use Rattle.std.proofs.lemmas.List.Elements.{All-cons, All-nil}
 use Rattle.std.proofs.lemmas.List.Filters.{length-filter_both, sum_by-filter_both}
 use Rattle.flash_dev.proofs.Moments.{stays_none}
@@ -10,6 +10,7 @@ use Rattle.mm_writer.proofs.Sides.{means_now}
 use Rattle.mm_writer.specs.Outcome.{IsKeptBy}
 use Rattle.mm_writer.specs.Side.{IsConsistent, Side, first_state, state_of}
 use Rattle.report_text.specs.declared.sizes.Sizes.{Sizes}
+use Rattle.report_text.specs.Session.{history_from}
 use Rattle.report_text.specs.Sizes.{sizes_of}
 use Rattle.report_text.specs.Summary.{replies_from, replies_of, state_from, summary_of}
 use Rattle.var_trace.specs.StoresAfter.{history_in}
@@ -27,11 +28,11 @@ use Rattle.var_types.specs.Session.{AreStepped, IsLegalSession, calls_of, histor
 use Rattle.var_types.specs.State.{State, start}
 use Rattle.var_types.specs.Step.{lacks_memory, step}
 use Rattle.var_types.specs.Stores.{is_in, map_in, part}
-use Rattle.varsvc.proofs.Closing.{no_call}
-use Rattle.varsvc.proofs.OneProcessor.{one_processor}
+use Rattle.varsvc.proofs.Processors.{no_processor}
 use Rattle.varsvc.proofs.Running.{front_now}
+use Rattle.varsvc.proofs.Stepped.{processors_stepped}
 use Rattle.varsvc.specs.Running.{HasRun, IsFrontLeft}
-use Rattle.varsvc.specs.Runs.{IsCalmAnswer, failures, lacks_any}
+use Rattle.varsvc.specs.Runs.{AreInTurn, IsCalmAnswer, all_answered, failures, lacks_one}
 use Rattle.varsvc.specs.Work.{work_summary}
 
 -- ---- stepped calls
@@ -46,25 +47,25 @@ goes_on : (state : State) (a : Answered) → lacks_memory a.call a.reply ≡ fal
 goes_on state a able = ap (λ (b : Bool). if b then state else (step state a.call).1) able
 
 -- where no reply is out of memory, they are the service's
-stepped_replies : (state : State) (xs : List Answered) → AreStepped state xs → lacks_any xs ≡ false → replies_of xs ≡ replies_from state (calls_of xs)
+stepped_replies : (state : State) (xs : List Answered) → AreStepped state xs → lacks_one xs ≡ false → replies_of xs ≡ replies_from state (calls_of xs)
 stepped_replies state [] stepped able = refl
 stepped_replies state (a ∷ xs) stepped able =
-    let each = neither (lacks_memory a.call a.reply) (lacks_any xs) able in
+    let each = neither (lacks_memory a.call a.reply) (lacks_one xs) able in
     ap₂ (λ (r : Reply) (rs : List Reply). r ∷ rs) (stepped.2 each.0)
     (stepped_replies (state_after state a) xs stepped.3 each.1 ∙ ap (λ (s : State). replies_from s (calls_of xs)) (goes_on state a each.0))
 
 -- and so is the state that they leave
-stepped_state : (state : State) (xs : List Answered) → lacks_any xs ≡ false → state_left state xs ≡ state_from state (calls_of xs)
+stepped_state : (state : State) (xs : List Answered) → lacks_one xs ≡ false → state_left state xs ≡ state_from state (calls_of xs)
 stepped_state state [] able = refl
 stepped_state state (a ∷ xs) able =
-    let each = neither (lacks_memory a.call a.reply) (lacks_any xs) able in
+    let each = neither (lacks_memory a.call a.reply) (lacks_one xs) able in
     stepped_state (state_after state a) xs each.1 ∙ ap (λ (s : State). state_from s (calls_of xs)) (goes_on state a each.0)
 
 -- answers that say neither that memory is wanting nor that the flash failed
-all_calm : (xs : List Answered) → lacks_any xs ≡ false → failures xs ≡ 0 → All IsCalmAnswer xs
+all_calm : (xs : List Answered) → lacks_one xs ≡ false → failures xs ≡ 0 → All IsCalmAnswer xs
 all_calm [] able none = All-nil IsCalmAnswer
 all_calm (a ∷ xs) able none =
-    let each = neither (lacks_memory a.call a.reply) (lacks_any xs) able in
+    let each = neither (lacks_memory a.call a.reply) (lacks_one xs) able in
     ⊎_elim
     (λ yes.
     let one = ap (λ (b : Bool). length (if b then a ∷ filter (λ (x : Answered). is_device_error x.reply) xs else filter (λ (x : Answered). is_device_error x.reply) xs)) yes in
@@ -76,17 +77,27 @@ all_calm (a ∷ xs) able none =
 
 -- ---- what they come to
 
+-- the calls of one processor alone were stepped
+one_stepped : (first : State) (xs : List Answered) → first.made ≡ 0 → IsLegalSession first (history_from 0 (xs ∷ [])) (xs ∷ [])
+    → AreInTurn 0 (all_answered (xs ∷ [])) → failures (all_answered (xs ∷ [])) ≡ 0 → lacks_one xs ≡ false → AreStepped first xs
+one_stepped first xs start legal in_turn none able =
+    let alone : all_answered (xs ∷ []) ≡ xs = append-nil xs in
+    subst (AreStepped first) alone
+    (processors_stepped first (xs ∷ []) start legal in_turn
+    (subst (All IsCalmAnswer) (sym alone) (all_calm xs able (ap failures (sym alone) ∙ none))))
+
 -- the summary of a session of a script's calls is that of the script
 pub worked : (number : ℕ) (side : Side) (first : State) (xs : List Answered) → first ≡ start [] script_calls → first_state side ≡ first
-    → history_in side.log ≡ history_of xs → IsLegalSession first (history_of xs) (xs ∷ []) → failures xs ≡ 0 → lacks_any xs ≡ false
-    → calls_of xs ≡ generated_calls number → summary_of (replies_of xs) (sizes_of (state_of side).variables) ≡ work_summary number
+    → history_in side.log ≡ history_from 0 (xs ∷ []) → IsLegalSession first (history_from 0 (xs ∷ [])) (xs ∷ []) → AreInTurn 0 (all_answered (xs ∷ []))
+    → failures (all_answered (xs ∷ [])) ≡ 0 → lacks_one xs ≡ false → calls_of xs ≡ generated_calls number
+    → summary_of (replies_of xs) (sizes_of (state_of side).variables) ≡ work_summary number
 unfolding work_summary state_of
-worked number side first xs is opened log legal none able calls =
-    let stepped : AreStepped first xs = one_processor first xs (ap (λ (s : State). s.made) is) legal (all_calm xs able none) in
+worked number side first xs is opened log legal in_turn none able calls =
+    let stepped = one_stepped first xs (ap (λ (s : State). s.made) is) legal in_turn none able in
     let replies : replies_of xs ≡ replies_from (start [] script_calls) (generated_calls number) =
     stepped_replies first xs stepped able ∙ ap₂ (λ (s : State) (cs : List Call). replies_from s cs) is calls in
     let state : run (first_state side) (history_in side.log) ≡ state_from (start [] script_calls) (generated_calls number) =
-    ap₂ (λ (s : State) (es : List Entry). run s es) opened log
+    ap₂ (λ (s : State) (es : List Entry). run s es) opened (log ∙ append-nil (history_of xs))
     ∙ sym (state_left-run first 0 0 xs stepped)
     ∙ stepped_state first xs able
     ∙ ap₂ (λ (s : State) (cs : List Call). state_from s cs) is calls in
@@ -122,7 +133,8 @@ module _ {F : Type 0} {fault_count moment : F → ℕ} {left_since : F → ℕ �
   run_none e empty sure kept = record {
     opened = refl;
     log = ap history_in empty;
-    legal = no_call (first_state e.1.1);
+    legal = no_processor (first_state e.1.1);
+    in_turn = tt;
     calm = λ _. refl;
     failed = inl (omega arith);
     never_falls = omega arith;
@@ -133,10 +145,10 @@ module _ {F : Type 0} {fault_count moment : F → ℕ} {left_since : F → ℕ �
   }
 
   -- where the flash never fails, no reply says that it did
-  pub no_failures : (first : State) (flash : F) (e : F × (Option (List ℕ) × Side)) (xs : List Answered)
-      → HasRun fault_count moment left_since holds first flash e xs → ((f : F) → fault_count f ≡ 0) → failures xs ≡ 0
+  pub no_failures : (first : State) (flash : F) (e : F × (Option (List ℕ) × Side)) (xs : List (List Answered))
+      → HasRun fault_count moment left_since holds first flash e xs → ((f : F) → fault_count f ≡ 0) → failures (all_answered xs) ≡ 0
   no_failures first flash e xs ran never =
       let before = never flash in
       let now = never e.0 in
-      ⊎_elim (λ (few : fault_count flash + failures xs ≤ fault_count e.0). omega (arith, few, before, now))
+      ⊎_elim (λ (few : fault_count flash + failures (all_answered xs) ≤ fault_count e.0). omega (arith, few, before, now))
       (λ (many : 2 ^ 64 - 1 ≤ fault_count e.0). absurd (omega (arith, many, now))) ran.failed

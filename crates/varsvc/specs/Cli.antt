@@ -1,5 +1,5 @@
 -- The command line as the kit's crate `clap` reads it: a verb is a subcommand, and an image or a number its one positional argument.
-use Rattle.std.specs.Prelude.{ℕ, true, List, codes, Option, option_and_then}
+use Rattle.std.specs.Prelude.{ℕ, true, List, [], codes, Option, option_and_then}
 use Rattle.clap.specs.Words.{App, Row, Rule, Text, first_of, new_app, new_rule, with_rule, with_subcommand}
 use Rattle.clap.specs.declared.error.kind.ErrorKind.{ErrorKind}
 use Rattle.clap.specs.declared.error.kind.ErrorKind.TheVariants as kind
@@ -26,7 +26,7 @@ bare = record (new_app (codes "varsvc")) {
   };
 }
 
--- the program with its verbs (this project's own)
+-- the program with its verbs but for `play`, behind which nothing is to be parsed (this project's own)
 abbrev pub cli : App
 cli =
     with_subcommand
@@ -43,9 +43,10 @@ cli =
 abbrev pub operand_in : Text → Option (Text × List Row) → Option Text
 operand_in name found = option_and_then (λ p. first_of name p.1) found
 
--- what the word behind a verb is called
+-- what the word behind a verb is called, if it takes one
 abbrev pub operand_word : Verb → List ℕ
 operand_word verb.Run = codes "image"
+operand_word verb.Play = []
 operand_word verb.List = codes "image"
 operand_word verb.Check = codes "image"
 operand_word verb.Format = codes "image"
@@ -55,6 +56,7 @@ operand_word verb.Work = codes "number"
 -- the word of a verb
 abbrev pub verb_word : Verb → List ℕ
 verb_word verb.Run = codes "run"
+verb_word verb.Play = codes "play"
 verb_word verb.List = codes "list"
 verb_word verb.Check = codes "check"
 verb_word verb.Format = codes "format"

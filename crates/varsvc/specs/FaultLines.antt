@@ -1,6 +1,8 @@
 use Rattle.std.specs.Prelude.{ℕ, List, [], ◌∷◌, decimal}
 use Rattle.flash_dev.specs.declared.image_fault.ImageFault.{ImageFault}
 use Rattle.flash_dev.specs.declared.image_fault.ImageFault.TheVariants as image
+use Rattle.script_text.specs.declared.play_fault.PlayFault.{PlayFault}
+use Rattle.script_text.specs.declared.play_fault.PlayFault.TheVariants as play
 use Rattle.script_text.specs.declared.script_fault.ScriptFault.{ScriptFault}
 use Rattle.script_text.specs.declared.script_fault.ScriptFault.TheVariants as script
 use Rattle.script_text.specs.declared.line_reason.LineReason.{LineReason}
@@ -52,13 +54,13 @@ abbrev pub reason_word : LineReason → Word
 reason_word reason.Text = word.Text
 reason_word reason.Processor = word.Processor
 reason_word reason.Verb = word.Verb
-reason_word reason.Later = word.Later
 reason_word reason.Words = word.Words
 reason_word reason.Guid = word.Guid
 reason_word reason.Name = word.Name
 reason_word reason.Number = word.Number
 reason_word reason.Hex = word.Hex
 reason_word reason.Verdict = word.Verdict
+reason_word reason.Schedule = word.Schedule
 
 -- the line for a refused script (this project's own)
 unfoldable pub script_line : ScriptFault → List ℕ
@@ -68,3 +70,8 @@ script_line (script.TooLong bytes) = line_text (word_text word.Script ∷ word_t
 script_line (script.TooManyCalls processor limit) =
     line_text (word_text word.Script ∷ word_text word.Calls ∷ decimal processor ∷ decimal limit ∷ [])
 script_line script.OutOfMemory = memory_line
+
+-- the line for a refused script with a schedule (this project's own)
+unfoldable pub play_line : PlayFault → List ℕ
+play_line (play.Script fault) = script_line fault
+play_line (play.Actor line) = line_text (word_text word.Script ∷ word_text word.Line ∷ decimal line ∷ word_text word.Actor ∷ [])

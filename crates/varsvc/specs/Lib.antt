@@ -12,3 +12,4 @@ pub mod RunPlan
 pub mod Running
 pub mod Work
 pub mod Number
+pub mod Plays

@@ -1,5 +1,5 @@
 -- What an opening of an image comes to.
-use Rattle.std.specs.Prelude.{◌≡◌, ℕ, List, [], Option, None, IfSome, max}
+use Rattle.std.specs.Prelude.{◌≡◌, ℕ, List, [], Option, None, IfSome}
 use Rattle.flash_dev.specs.Moments.{Stays}
 use Rattle.mm_writer.specs.Side.{Side, state_of}
 use Rattle.nv_store.specs.declared.load_fault.LoadWhy.{LoadWhy}

@@ -18,6 +18,7 @@ is_dashed (c ∷ cs) = c == 45
 abbrev pub verb_of : List ℕ → Option Verb
 verb_of word =
     if pointwise ◌==◌ word (codes "run") then Some verb.Run
+    else if pointwise ◌==◌ word (codes "play") then Some verb.Play
     else if pointwise ◌==◌ word (codes "list") then Some verb.List
     else if pointwise ◌==◌ word (codes "check") then Some verb.Check
     else if pointwise ◌==◌ word (codes "format") then Some verb.Format
@@ -38,9 +39,10 @@ abbrev pub numbered : (ℕ → Order) → Result ℕ UsageFault → Result Order
 numbered order (Ok number) = Ok (order number)
 numbered order (Err fault) = Err fault
 
--- the order of a verb with the word behind it: an image, or a number (this project's own)
+-- the order of a verb with the word behind it: an image, or a number; a play takes none (this project's own)
 abbrev pub order_with : Verb → List ℕ → Result Order UsageFault
 order_with verb.Run image = Ok (order.Run image)
+order_with verb.Play word = Err (usage.Extra 1)
 order_with verb.List image = Ok (order.List image)
 order_with verb.Check image = Ok (order.Check image)
 order_with verb.Format image = Ok (order.Format image)
@@ -50,17 +52,33 @@ order_with verb.Work number = numbered order.Work (wanted_number number)
 -- the image that an order is about, if it is about one
 abbrev pub image_of : Order → Option (List ℕ)
 image_of (order.Run image) = Some image
+image_of order.Play = None
 image_of (order.List image) = Some image
 image_of (order.Check image) = Some image
 image_of (order.Format image) = Some image
 image_of (order.Make number) = None
 image_of (order.Work number) = None
 
--- the words behind a verb: one alone
+-- the words behind a verb that takes one alone
+abbrev pub one_operand : Verb → List (List ℕ) → Result Order UsageFault
+one_operand verb [] = Err (usage.Missing 1 0)
+one_operand verb (word ∷ []) = order_with verb word
+one_operand verb (word ∷ extra ∷ more) = Err (usage.Extra 2)
+
+-- the words behind a play, which takes none
+abbrev pub no_operand : List (List ℕ) → Result Order UsageFault
+no_operand [] = Ok order.Play
+no_operand (word ∷ more) = Err (usage.Extra 1)
+
+-- the words behind a verb: one alone, or none behind a play (this project's own)
 abbrev pub operand_order : Verb → List (List ℕ) → Result Order UsageFault
-operand_order verb [] = Err (usage.Missing 1 0)
-operand_order verb (word ∷ []) = order_with verb word
-operand_order verb (word ∷ extra ∷ more) = Err (usage.Extra 2)
+operand_order verb.Run words = one_operand verb.Run words
+operand_order verb.Play words = no_operand words
+operand_order verb.List words = one_operand verb.List words
+operand_order verb.Check words = one_operand verb.Check words
+operand_order verb.Format words = one_operand verb.Format words
+operand_order verb.Make words = one_operand verb.Make words
+operand_order verb.Work words = one_operand verb.Work words
 
 -- the words behind a verb, the first of which with a dash is at this place
 abbrev pub dashed_order : Verb → List (List ℕ) → Option ℕ → Result Order UsageFault

@@ -20,6 +20,7 @@ use Rattle.varsvc.specs.FaultLines.{device_line, input_line, memory_line, usage_
 use Rattle.varsvc.specs.Input.{TakesAtMost, most_read}
 use Rattle.varsvc.specs.Images.{Formats, Inspects, IsImage, IsNoImage, RefusesFormat, RefusesList}
 use Rattle.varsvc.specs.Order.{IsRunOrder}
+use Rattle.varsvc.specs.Plays.{IsNoPlayScript, IsPlayScript, Plays, RefusesPlay}
 use Rattle.varsvc.specs.Runs.{IsNoScript, IsScript, LeavesUntouched, LeavesVariables, RefusesScript, Reports, Runs}
 use Rattle.varsvc.specs.Told.{Told, told_of}
 use Rattle.varsvc.specs.Work.{work_summary}
@@ -73,6 +74,27 @@ run_row told = record {
   leaves = λ _ _. Unit {0};
   accepted = IsScript told.input × IsImage told.image;
   refused = λ status. ((status ≡ 3) × IsNoScript told.input) ⊎ ((status ≡ 4) × IsScript told.input × IsNoImage told.image);
+}
+
+-- playing a script with a schedule, whatever the image is
+abbrev pub play_row : Option (List ℕ) → Row
+play_row input = record {
+  output = Plays input;
+  usage = NoText;
+  script = RefusesPlay input;
+  image = NoText;
+  lacking = NoText;
+  untouched = Unit {0};
+  unopened = Unit {0};
+  unprinted = Unit {0};
+  reads = true;
+  opens = false;
+  prints = true;
+  replies = false;
+  done = IsKept;
+  leaves = IsKept;
+  accepted = IsPlayScript input;
+  refused = λ status. (status ≡ 3) × IsNoPlayScript input;
 }
 
 -- listing or checking an image
@@ -162,6 +184,7 @@ usage_row fault = record {
 -- the table of verbs: what is done, by what the words ask for and by what is told of source and image (this project's own)
 abbrev pub row : Result Order UsageFault → Told → Row
 row (Ok (order.Run name)) told = run_row told
+row (Ok order.Play) told = play_row told.input
 row (Ok (order.List name)) told = inspection_row inspection.Listing told.image told.size
 row (Ok (order.Check name)) told = inspection_row inspection.Check told.image told.size
 row (Ok (order.Format name)) told = format_row told.size
@@ -247,9 +270,9 @@ pub record Performs {S K F : Type 0} (left : S → Option (List ℕ)) (read_faul
   -- where nothing is to be printed, nothing is written
   pub quiet : (row asked (told_of holds size flash_faults moment left_since (left source) flash flash_after)).prints ≡ false → status ≡ 0
       → sink_after ≡ sink
-  -- how much is read: nothing, but by a run
+  -- how much is read: nothing, but by a run or a play
   pub reads : ReadsInput (row asked (told_of holds size flash_faults moment left_since (left source) flash flash_after)) status (left source) (left source_after)
-  pub unread : ¬ IsRunOrder asked → source_after ≡ source
+  pub unread : (row asked (told_of holds size flash_faults moment left_since (left source) flash flash_after)).reads ≡ false → source_after ≡ source
   -- what becomes of the image, and what a power loss may leave of it, unless that is said with the text
   pub leaves : ¬ IsRunOrder asked
       → LeavesImage (row asked (told_of holds size flash_faults moment left_since (left source) flash flash_after)) status (size flash) (holds flash) (holds flash_after)

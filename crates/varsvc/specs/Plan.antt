@@ -1,5 +1,5 @@
 -- What a call of the program is to print.
-use Rattle.std.specs.Prelude.{◌≡◌, ◌≢◌, ◌⊎◌, ℕ, Bool, true, false, List, Option, if◌then◌else◌}
+use Rattle.std.specs.Prelude.{◌≡◌, ◌≢◌, ◌⊎◌, ℕ, Bool, true, false, List, [], ◌∷◌, ◌++◌, Option, Some, None, if◌then◌else◌}
 use Rattle.std.specs.List.{list_any}
 use Rattle.std.specs.Io.KnownBytes.{Appends}
 use Rattle.flash_dev.specs.declared.image_fault.ImageFault.{ImageFault}
@@ -9,8 +9,11 @@ use Rattle.outside.specs.Written.{AppendsPart}
 use Rattle.ftw_mount.specs.declared.kept.Kept.{Kept}
 use Rattle.report_text.specs.Check.{check_text, facts_of}
 use Rattle.report_text.specs.Listing.{listing_text}
+use Rattle.report_text.specs.declared.word.Word.TheVariants as word
+use Rattle.report_text.specs.Line.{line_text}
 use Rattle.report_text.specs.Report.{session_text}
 use Rattle.report_text.specs.Values.{HaveValues}
+use Rattle.report_text.specs.Word.{word_text}
 use Rattle.var_trace.specs.Answers.{AnsweredCalls}
 use Rattle.var_trace.specs.Session.{SessionParts, answers_of}
 use Rattle.var_trace.specs.StoresAfter.{history_in}
@@ -25,7 +28,7 @@ use Rattle.varsvc.specs.declared.plan.Plan.TheVariants.{Print, Stream, InputFaul
 use Rattle.varsvc.specs.declared.streamed.Streamed.{Streamed}
 use Rattle.varsvc.specs.declared.streamed.Streamed.TheVariants as streamed
 use Rattle.varsvc.specs.FaultLines.{device_line, image_line, input_line, memory_line}
-use Rattle.varsvc.specs.Runs.{lacks_any}
+use Rattle.varsvc.specs.Runs.{lacks_one}
 
 -- the region that a content is, and its listing
 abbrev pub volume_region : List ℕ → Region
@@ -41,24 +44,34 @@ content_text inspection.Check kept content = check_text (facts_of (volume_region
 
 -- whether some reply of a session is out of memory, and the status of its report
 abbrev pub lacks_in : SessionParts → Bool
-lacks_in session = list_any (λ (answers : AnsweredCalls). lacks_any answers.answered) session.processors
+lacks_in session = list_any (λ (answers : AnsweredCalls). lacks_one answers.answered) session.processors
 
 abbrev pub report_status : SessionParts → ℕ
 report_status session = if lacks_in session then 8 else 0
 
+-- the report of a session that was played, and behind it what a loss of power left, if it was lost: a line that says so, and its listing (this
+-- project's own)
+abbrev pub play_text : SessionParts → Option (List ℕ) → List ℕ
+play_text session None = session_text (history_in session.entries.log) (answers_of session)
+play_text session (Some content) =
+    session_text (history_in session.entries.log) (answers_of session) ++ (line_text (word_text word.Power ∷ []) ++ volume_listing content)
+
 -- what is printed while it is written: its status, its text, and that its parts are values of their types
 abbrev pub streamed_status : Streamed → ℕ
 streamed_status (streamed.Report session) = report_status session
+streamed_status (streamed.Play session left) = 0
 streamed_status (streamed.Listing content) = 0
 streamed_status (streamed.Script number) = 0
 
 abbrev pub streamed_text : Streamed → List ℕ
 streamed_text (streamed.Report session) = session_text (history_in session.entries.log) (answers_of session)
+streamed_text (streamed.Play session left) = play_text session left
 streamed_text (streamed.Listing content) = volume_listing content
 streamed_text (streamed.Script number) = generated_script number
 
 abbrev pub HasStreamedValues : Streamed → Type 0
 HasStreamedValues (streamed.Report session) = HaveValues (answers_of session)
+HasStreamedValues (streamed.Play session left) = HaveValues (answers_of session)
 HasStreamedValues (streamed.Listing content) = Unit {0}
 HasStreamedValues (streamed.Script number) = Unit {0}
 

@@ -1,10 +1,10 @@
 -- What a run of a script on an image prints and leaves.
-use Rattle.std.specs.Prelude.{◌≡◌, ◌⊎◌, ℕ, ◌+◌, ◌-◌, ◌^◌, ◌≤◌, Bool, false, List, [], ◌∷◌, length, filter, max, Option, Ok, Err, IsErr, IsOk, IfSome, IsSomeAnd, All}
+use Rattle.std.specs.Prelude.{◌≡◌, ◌⊎◌, ℕ, ◌+◌, ◌-◌, ◌^◌, ◌≤◌, Bool, false, List, [], ◌∷◌, length, filter, flat_map, map, max, sum_by, Option, Ok, Err, IsErr, IsOk, IfSome, IsSomeAnd, All, if◌then◌else◌}
 use Rattle.std.specs.List.{list_any}
 use Rattle.ftw_mount.specs.Mount.{content_geometry}
 use Rattle.outside.specs.Faults.{HasRisen}
 use Rattle.report_text.specs.Fitting.{IsFitting}
-use Rattle.report_text.specs.Session.{report_of}
+use Rattle.report_text.specs.Session.{history_from, report_of}
 use Rattle.script_text.specs.declared.script_fault.ScriptFault.{ScriptFault}
 use Rattle.script_text.specs.Script.{script_of}
 use Rattle.var_types.specs.declared.answered.Answered.{Answered}
@@ -12,11 +12,11 @@ use Rattle.var_types.specs.declared.key.Key.{Key}
 use Rattle.var_types.specs.declared.store.Store.TheVariants.{NonVolatile}
 use Rattle.var_types.specs.declared.variable.Variable.{Variable}
 use Rattle.var_types.specs.DeviceErrors.{is_device_error}
-use Rattle.var_types.specs.History.{after}
+use Rattle.var_types.specs.History.{Entry, after}
 use Rattle.var_types.specs.Kept.{IsSound, kept}
-use Rattle.var_types.specs.Session.{AreStepped, IsLegalSession, calls_of, history_of}
+use Rattle.var_types.specs.Session.{AreStepped, IsLegalSession, calls_of}
 use Rattle.var_types.specs.State.{State, start}
-use Rattle.var_types.specs.Step.{lacks_memory}
+use Rattle.var_types.specs.Step.{is_change, lacks_memory}
 use Rattle.var_types.specs.Stores.{part}
 use Rattle.varsvc.specs.FaultLines.{script_line}
 use Rattle.varsvc.specs.Told.{Told}
@@ -26,9 +26,19 @@ use Rattle.varsvc.specs.Told.{Told}
 abbrev pub start_on : List ℕ → ℕ → State
 start_on image calls = start (kept image) (max calls 1)
 
--- the non-volatile variables after the first k changes of a session that starts from a state
-abbrev pub variables_at : State → List Answered → ℕ → List (Key × Variable)
-variables_at first answered k = part NonVolatile (after first (history_of answered) k).variables
+-- the answered calls of all processors, one processor after the other
+abbrev pub all_answered : List (List Answered) → List Answered
+all_answered processors = flat_map (λ answered. answered) processors
+
+-- answered calls were made one after the other: the place of each is the number of the changes before it, of which so many were made before the
+-- first (this project's own)
+abbrev pub AreInTurn : ℕ → List Answered → Type 0
+AreInTurn made [] = Unit {0}
+AreInTurn made (a ∷ rest) = (a.place ≡ made) × AreInTurn (if is_change a.reply then made + 1 else made) rest
+
+-- the non-volatile variables after the first k changes of a history from a state
+abbrev pub variables_at : State → List Entry → ℕ → List (Key × Variable)
+variables_at first history k = part NonVolatile (after first history k).variables
 
 -- how many replies say that the flash failed
 abbrev pub failures : List Answered → ℕ
@@ -37,24 +47,27 @@ failures answered = length (filter (λ a. is_device_error a.reply) answered)
 -- what a run of a session leaves of the image. No call of the flash having failed, the image keeps the non-volatile variables after the whole
 -- history, and a power loss at any moment keeps those after a front of it. There are as many replies at most that say that the flash failed as
 -- calls of it did; where there are none, none did (this project's own)
-pub record LeavesRun (told : Told) (first : State) (answered : List Answered) : Type 0 where
+pub record LeavesRun (told : Told) (first : State) (processors : List (List Answered)) : Type 0 where
   pub keeps : ¬ HasRisen told.faults told.faults_after
-      → IfSome told.image (λ image. IsSomeAnd told.after (λ left. kept left ≡ variables_at first answered (length (history_of answered))))
+      → IfSome told.image (λ image. IsSomeAnd told.after (λ left.
+      kept left ≡ variables_at first (history_from 0 processors) (length (history_from 0 processors))))
   pub at_any_moment : ¬ HasRisen told.faults told.faults_after
       → IfSome told.image (λ image. (left : List ℕ) → told.left left
-      → (k : ℕ) × (k ≤ length (history_of answered)) × (kept left ≡ variables_at first answered k))
-  pub calm : failures answered ≡ 0 → told.faults_after ≡ told.faults
-  pub failed : (told.faults + failures answered ≤ told.faults_after) ⊎ (2 ^ 64 - 1 ≤ told.faults_after)
+      → (k : ℕ) × (k ≤ length (history_from 0 processors)) × (kept left ≡ variables_at first (history_from 0 processors) k))
+  pub calm : failures (all_answered processors) ≡ 0 → told.faults_after ≡ told.faults
+  pub failed : (told.faults + failures (all_answered processors) ≤ told.faults_after) ⊎ (2 ^ 64 - 1 ≤ told.faults_after)
 
--- one processor's calls were run on an image that is accepted: they are the script's, in order, and all are answered; it is a legal session from the
--- variables that the image keeps, its history being the changes of its calls; and the run leaves what it has to (this project's own)
-pub record WasRun (told : Told) (answered : List Answered) : Type 0 where
+-- the calls of a script were run on an image that is accepted: all of processor 0 first, then all of processor 1, and so on, each at the place
+-- behind the changes before it, and all are answered; it is a legal session from the variables that the image keeps, its history being the
+-- changes of the calls; and the run leaves what it has to (this project's own)
+pub record WasRun (told : Told) (processors : List (List Answered)) : Type 0 where
   pub first : State
-  pub opened : IfSome told.image (λ image. first ≡ start_on image (length answered))
+  pub opened : IfSome told.image (λ image. first ≡ start_on image (sum_by length processors))
   pub accepted : IfSome told.image (λ image. IsOk (content_geometry image) × IsSound image)
-  pub script : IfSome told.input (λ input. script_of input ≡ Ok (calls_of answered ∷ []))
-  pub legal : IsLegalSession first (history_of answered) (answered ∷ [])
-  pub leaves : LeavesRun told first answered
+  pub script : IfSome told.input (λ input. script_of input ≡ Ok (map calls_of processors))
+  pub legal : IsLegalSession first (history_from 0 processors) processors
+  pub in_turn : AreInTurn 0 (all_answered processors)
+  pub leaves : LeavesRun told first processors
 
 -- the image stays as it is, at each moment too, and no call of the flash failed
 pub record LeavesUntouched (told : Told) : Type 0 where
@@ -67,19 +80,23 @@ pub record LeavesVariables (told : Told) : Type 0 where
   pub now : IfSome told.image (λ image. IsSomeAnd told.after (λ left. kept left ≡ kept image))
   pub at_any_moment : IfSome told.image (λ image. (left : List ℕ) → told.left left → kept left ≡ kept image)
 
--- whether some reply of a session is out of memory
-abbrev pub lacks_any : List Answered → Bool
-lacks_any answered = list_any (λ a. lacks_memory a.call a.reply) answered
+-- whether some reply to a processor is out of memory, and whether one of a session is
+abbrev pub lacks_one : List Answered → Bool
+lacks_one answered = list_any (λ a. lacks_memory a.call a.reply) answered
+
+abbrev pub lacks_any : List (List Answered) → Bool
+lacks_any processors = list_any lacks_one processors
 
 -- this is the report of a session that was run, of which each reply is of its call's kind, of parts that are values of their types; some reply
 -- is out of memory, or none
 abbrev pub Reports : Told → Bool → List ℕ → Type 0
 Reports told lacking text =
-    (answered : List Answered) × WasRun told answered × All IsFitting answered × (lacks_any answered ≡ lacking) × (text ≡ report_of answered)
+    (processors : List (List Answered)) × WasRun told processors × All (All IsFitting) processors × (lacks_any processors ≡ lacking)
+    × (text ≡ report_of processors)
 
 -- a session was run, and nothing is said of what is printed
 abbrev pub Runs : Told → Type 0
-Runs told = (answered : List Answered) × WasRun told answered
+Runs told = (processors : List (List Answered)) × WasRun told processors
 
 -- the input that is told is no script, and this line says why
 abbrev pub RefusesScript : Option (List ℕ) → List ℕ → Type 0
@@ -100,16 +117,16 @@ IsNoScript left = IsSomeAnd left (λ input. IsErr (script_of input))
 -- project's own)
 abbrev pub OneTextOneSession : Type 0
 OneTextOneSession =
-    (input : List ℕ) (xs ys : List Answered) → script_of input ≡ Ok (calls_of xs ∷ []) → script_of input ≡ Ok (calls_of ys ∷ [])
-    → All IsFitting xs → All IsFitting ys → report_of xs ≡ report_of ys → xs ≡ ys
+    (input : List ℕ) (xs ys : List (List Answered)) → script_of input ≡ Ok (map calls_of xs) → script_of input ≡ Ok (map calls_of ys)
+    → All (All IsFitting) xs → All (All IsFitting) ys → report_of xs ≡ report_of ys → xs ≡ ys
 
 -- a reply that says neither that memory is wanting nor that the flash failed
 abbrev pub IsCalmAnswer : Answered → Type 0
 IsCalmAnswer a = (lacks_memory a.call a.reply ≡ false) × (is_device_error a.reply ≡ false)
 
--- where nothing failed and no memory was wanting, the calls of a legal session of one processor, in their order, were stepped through the
--- one-thread service: its history, its places and its replies are that service's (this project's own)
-abbrev pub OneProcessorIsStepped : Type 0
-OneProcessorIsStepped =
-    (first : State) (answered : List Answered) → first.made ≡ 0 → IsLegalSession first (history_of answered) (answered ∷ [])
-    → All IsCalmAnswer answered → AreStepped first answered
+-- where nothing failed and no memory was wanting, the calls of a legal session that were made processor by processor were stepped in that order
+-- through the one-thread service: its history, its places and its replies are that service's (this project's own)
+abbrev pub ProcessorsAreStepped : Type 0
+ProcessorsAreStepped =
+    (first : State) (processors : List (List Answered)) → first.made ≡ 0 → IsLegalSession first (history_from 0 processors) processors
+    → AreInTurn 0 (all_answered processors) → All IsCalmAnswer (all_answered processors) → AreStepped first (all_answered processors)

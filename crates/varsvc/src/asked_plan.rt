@@ -1,12 +1,12 @@
 //! What the words ask for is done, and what is to be printed of it is planned.
-ghost use Rattle.std.specs.Prelude.{◌≡◌, ◌⊎◌, false};
+ghost use Rattle.std.specs.Prelude.{◌≡◌, ◌≢◌, ◌⊎◌, false};
 ghost use Rattle.flash_dev.specs.Formatting.{IsFormatLeft};
 ghost use Rattle.flash_dev.specs.Moments.{Stays};
 ghost use Rattle.flash_dev.specs.Rules.{IsKept};
 ghost use Rattle.image_make.specs.Generated.{generated_script};
 ghost use Rattle.report_text.specs.Summary.{summary_line};
 ghost use Rattle.varsvc.specs.Order.{IsRunOrder, asked};
-ghost use Rattle.varsvc.specs.Outcome.{FailsAt, FlashFails, IsText, LeavesImage, ReadsInput, format_row, inspection_row, row, text_row};
+ghost use Rattle.varsvc.specs.Outcome.{FailsAt, FlashFails, IsText, LeavesImage, ReadsInput, format_row, inspection_row, play_row, row, text_row};
 ghost use Rattle.varsvc.specs.Plan.{HasPlanValues, IsStreamed, status_of, text_of};
 ghost use Rattle.varsvc.specs.Told.{told_of};
 ghost use Rattle.varsvc.specs.Work.{work_summary};
@@ -16,6 +16,7 @@ use crate::inspection::Inspection;
 use crate::order::Order;
 use crate::plan::{Plan, plan_usage};
 use crate::planned::Planned;
+use crate::play_plan::plan_play;
 use crate::run_plan::plan_run;
 use crate::streamed::Streamed;
 use crate::words::read_words;
@@ -47,6 +48,19 @@ fn plan_formatted<F: Flash>(alloc: Global, image: F) -> Planned<F>
     let mut image = image;
     let plan = plan_format(alloc, &mut image);
     Planned { plan, image }
+}
+
+fn plan_played<S: Source, F: Flash>(alloc: Global, script: &mut S, image: F) -> Planned<F>
+    ensures text { HasPlanValues result.plan → IsText (play_row (S.left script.old)) (status_of result.plan) (text_of result.plan) }
+    ensures source { FailsAt 6 (status_of result.plan) (S.fault_count script.old) (S.fault_count script.new) }
+    ensures device { status_of result.plan ≢ 7 }
+    ensures reads { ReadsInput (play_row (S.left script.old)) (status_of result.plan) (S.left script.old) (S.left script.new) }
+    ensures image { result.image ≡ image }
+{
+    Planned {
+        plan: plan_play(alloc, script),
+        image,
+    }
 }
 
 fn plan_made<F: Flash>(number: u32, image: F) -> Planned<F>
@@ -86,12 +100,13 @@ pub fn plan_asked<S: Source, F: Flash>(
     ensures leaves { ¬ IsRunOrder (asked words.now) → LeavesImage (row (asked words.now) (told_of F.holds F.size F.fault_count F.moment F.left_since (S.left script.old) image result.image)) (status_of result.plan) (F.size image) (F.holds image) (F.holds result.image) }
     ensures at_any_moment { ¬ IsRunOrder (asked words.now) → Stays (row (asked words.now) (told_of F.holds F.size F.fault_count F.moment F.left_since (S.left script.old) image result.image)).leaves F.moment F.left_since F.holds image result.image }
     ensures streamed { ¬ IsRunOrder (asked words.now) → IsStreamed result.plan → F.holds result.image ≡ F.holds image }
-    ensures unread { ¬ IsRunOrder (asked words.now) → script.new ≡ script.old }
+    ensures unread { (row (asked words.now) (told_of F.holds F.size F.fault_count F.moment F.left_since (S.left script.old) image result.image)).reads ≡ false → script.new ≡ script.old }
     ensures unopened { (row (asked words.now) (told_of F.holds F.size F.fault_count F.moment F.left_since (S.left script.old) image result.image)).opens ≡ false → result.image ≡ image }
     ensures size { F.size result.image ≡ F.size image }
 {
     match read_words(alloc, words) {
         Ok(Order::Run { .. }) => plan_run(alloc, script, image),
+        Ok(Order::Play) => plan_played(alloc, script, image),
         Ok(Order::List { .. }) => plan_inspected(alloc, Inspection::Listing, image),
         Ok(Order::Check { .. }) => plan_inspected(alloc, Inspection::Check, image),
         Ok(Order::Format { .. }) => plan_formatted(alloc, image),

@@ -1,12 +1,12 @@
 ghost use Rattle.std.specs.Prelude.{◌≡◌, [], ◌∷◌, decimal};
 ghost use Rattle.report_text.specs.Line.{line_text};
 ghost use Rattle.report_text.specs.Word.{word_text};
-ghost use Rattle.varsvc.specs.FaultLines.{usage_line, script_line, memory_line, device_line, foreign_line, image_line, reason_word};
+ghost use Rattle.varsvc.specs.FaultLines.{usage_line, play_line, script_line, memory_line, device_line, foreign_line, image_line, reason_word};
 
 use crate::usage::UsageFault;
 use flash_dev::ImageFault;
 use report_text::{Part, Word, write_line};
-use script_text::{LineReason, ScriptFault};
+use script_text::{LineReason, PlayFault, ScriptFault};
 use var_types::Put;
 
 /// Puts the line that there is no memory.
@@ -101,13 +101,13 @@ fn reason_word(reason: LineReason) -> Word
         LineReason::Text => Word::Text,
         LineReason::Processor => Word::Processor,
         LineReason::Verb => Word::Verb,
-        LineReason::Later => Word::Later,
         LineReason::Words => Word::Words,
         LineReason::Guid => Word::Guid,
         LineReason::Name => Word::Name,
         LineReason::Number => Word::Number,
         LineReason::Hex => Word::Hex,
         LineReason::Verdict => Word::Verdict,
+        LineReason::Schedule => Word::Schedule,
     }
 }
 
@@ -133,5 +133,21 @@ pub fn write_script_line<P: Put>(fault: ScriptFault, out: &mut P)
             write_line(&[script, Part::Word(Word::Calls), processor, limit], out)
         }
         ScriptFault::OutOfMemory => write_memory_line(out),
+    }
+}
+
+/// Puts the line for a refused script with a schedule.
+#[tactic(auto, unfolding(crate::specs::FaultLines::play_line))]
+pub fn write_play_line<P: Put>(fault: PlayFault, out: &mut P)
+    ensures { P.Puts out.old out.new (play_line fault) }
+{
+    match fault {
+        PlayFault::Script(fault) => write_script_line(fault, out),
+        PlayFault::Actor { line } => {
+            let script = Part::Word(Word::Script);
+            let number = Part::Number(u64::from(line));
+            let actor = Part::Word(Word::Actor);
+            write_line(&[script, Part::Word(Word::Line), number, actor], out)
+        }
     }
 }

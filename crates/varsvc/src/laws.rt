@@ -5,7 +5,7 @@ ghost use Rattle.var_types.specs.Census.{census_of};
 ghost use Rattle.var_types.specs.Kept.{content_region, kept};
 ghost use Rattle.varsvc.specs.Images.{nothing};
 ghost use Rattle.varsvc.specs.Outcome.{CallsAreJudged};
-ghost use Rattle.varsvc.specs.Runs.{OneProcessorIsStepped, OneTextOneSession};
+ghost use Rattle.varsvc.specs.Runs.{OneTextOneSession, ProcessorsAreStepped};
 
 use flash_dev::Flash;
 
@@ -14,9 +14,10 @@ pub fn one_text_one_session()
     ensures { OneTextOneSession }
 {}
 
-/// Where nothing failed and no memory was wanting, what a run prints is the one-thread service's on the image: history, places and replies.
+/// Where nothing failed and no memory was wanting, what a run prints is the one-thread service's on the image, called processor by processor:
+/// history, places and replies.
 pub fn runs_are_the_one_thread_services()
-    ensures { OneProcessorIsStepped }
+    ensures { ProcessorsAreStepped }
 {}
 
 /// Where no call of source, sink or flash fails, a call of the program that has memory does what is accepted, and refuses the rest.

@@ -1,4 +1,4 @@
-//! The variable services of UEFI on one processor: runs scripts of calls on images of the flash, and lists, checks and formats images.
+//! The variable services of UEFI: runs scripts of calls on images of the flash, and lists, checks and formats images.
 #![tactic(auto)]
 
 mod asked_plan;
@@ -22,10 +22,14 @@ mod order;
 mod parse;
 mod plan;
 mod planned;
+mod play_plan;
+#[cfg(test)]
+mod play_tests;
 mod print;
 mod program;
 #[cfg(test)]
 mod program_tests;
+mod queue;
 #[cfg(test)]
 mod random;
 mod run_plan;

@@ -7,6 +7,8 @@ use crate::image_name::ImageName;
 pub enum Order {
     /// Run a script of calls on an image.
     Run { image: ImageName },
+    /// Play a script with a schedule, step by step.
+    Play,
     /// List the non-volatile variables of an image.
     List { image: ImageName },
     /// Check an image: count what it keeps.
@@ -31,7 +33,7 @@ impl Order {
             | Order::List { image }
             | Order::Check { image }
             | Order::Format { image } => Some(image),
-            Order::Make { .. } | Order::Work { .. } => None,
+            Order::Play | Order::Make { .. } | Order::Work { .. } => None,
         }
     }
 }

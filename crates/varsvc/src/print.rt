@@ -1,12 +1,12 @@
 //! The printing of a plan.
-ghost use Rattle.std.specs.Prelude.{◌≡◌, ◌≢◌, ℕ, List, [], true, IfOk, OnOk, OnErr};
+ghost use Rattle.std.specs.Prelude.{◌≡◌, ◌≢◌, ℕ, List, [], true, IfOk, OnOk, OnErr, Some};
 ghost use Rattle.std.specs.Io.KnownBytes.{Appends};
 ghost use Rattle.outside.specs.Written.{AppendsPart};
 ghost use Rattle.report_text.specs.Flow.{PutsThrough, empty};
 ghost use Rattle.varsvc.specs.Outcome.{FailsAt};
-ghost use Rattle.varsvc.specs.declared.streamed.Streamed.TheVariants.{Listing, Report, Script};
+ghost use Rattle.varsvc.specs.declared.streamed.Streamed.TheVariants.{Listing, Play, Report, Script};
 ghost use Rattle.varsvc.specs.Plan.{ComesTo, Gains, IsOutcome, IsPrintable, lacks_in, report_status, text_of};
-ghost use Rattle.varsvc.specs.Runs.{lacks_any};
+ghost use Rattle.varsvc.specs.Runs.{lacks_one};
 
 use crate::content::Content;
 use crate::fault_lines::write_memory_line;
@@ -15,7 +15,9 @@ use crate::streamed::Streamed;
 use flash_dev::HEADERS_BYTES;
 use image_make::make_script;
 use outside::{Failed, Sink};
-use report_text::{Outlet, Page, write_listing, write_session};
+use report_text::{
+    Outlet, Page, Part, Word, variables_of, write_found, write_line, write_listing, write_session,
+};
 use std::alloc::Global;
 use var_region::Region;
 use var_trace::{Answers, Session};
@@ -45,17 +47,17 @@ fn print_text<K: Sink>(status: u8, text: &[u8], out: &mut K) -> u8
 }
 
 /// Whether some call of a processor was out of memory.
-pub fn lacks_any(answers: &Answers) -> bool
-    ensures { result ≡ lacks_any answers.now.answered }
+pub fn lacks_one(answers: &Answers) -> bool
+    ensures { result ≡ lacks_one answers.now.answered }
 {
     answers.as_slice().iter().any(|a| a.lacks_memory())
 }
 
-// Whether some call of a session was out of memory.
-fn lacks_memory(session: &Session) -> bool
+/// Whether some call of a session was out of memory.
+pub fn lacks_memory(session: &Session) -> bool
     ensures { result ≡ lacks_in session.now }
 {
-    session.processors.iter().any(|answers| lacks_any(answers))
+    session.processors.iter().any(|answers| lacks_one(answers))
 }
 
 fn report_status(session: &Session) -> u8
@@ -86,6 +88,39 @@ fn write_report<P: Put>(session: &Session, out: &mut P) -> u8
     report_status(session)
 }
 
+// Puts the report of a session that was played, and behind it what a loss of power left, and answers 0; where the variables of that take more
+// memory than there is, the line that says so, and 8.
+fn write_lost<P: Put>(alloc: Global, session: &Session, left: &Content, out: &mut P) -> u8
+    ensures { (text : List ℕ) × ComesTo (Play session.now (Some left.now)) result text × P.Puts out.old out.new text }
+{
+    let region = Region::over(left.as_slice(), HEADERS_BYTES as u32, true);
+    match variables_of(alloc, &region) {
+        Ok(variables) => {
+            write_session(session, out);
+            write_line(&[Part::Word(Word::Power)], out);
+            write_found(&variables, out);
+            0
+        }
+        Err(_) => {
+            write_memory_line(out);
+            8
+        }
+    }
+}
+
+// Puts the report of a session that was played, and what a loss of power left, if it was lost; and answers its status.
+fn write_play<P: Put>(alloc: Global, session: &Session, left: &Option<Content>, out: &mut P) -> u8
+    ensures { (text : List ℕ) × ComesTo (Play session.now left.now) result text × P.Puts out.old out.new text }
+{
+    match left {
+        Some(left) => write_lost(alloc, session, left, out),
+        None => {
+            write_session(session, out);
+            0
+        }
+    }
+}
+
 // Puts the script of a number, and answers 0.
 fn write_script<P: Put>(number: u32, out: &mut P) -> u8
     ensures { (text : List ℕ) × ComesTo (Script number) result text × P.Puts out.old out.new text }
@@ -99,6 +134,7 @@ fn write_streamed<P: Put>(alloc: Global, streamed: &Streamed, out: &mut P) -> u8
 {
     match streamed {
         Streamed::Report { session } => write_report(session, out),
+        Streamed::Play { session, left } => write_play(alloc, session, left, out),
         Streamed::Listing { content } => write_variables(alloc, content, out),
         Streamed::Script { number } => write_script(*number, out),
     }

@@ -1,5 +1,5 @@
 //! The running of a script on an image, and what is to be printed of it.
-ghost use Rattle.std.specs.Prelude.{◌≡◌, ◌≢◌, ◌<◌, ◌≤◌, [], ◌∷◌, length, List, Option, ℕ};
+ghost use Rattle.std.specs.Prelude.{◌≡◌, ◌≢◌, ◌<◌, ◌≤◌, [], length, map, sum_by, All, IfOk, List, Option, ℕ};
 ghost use Rattle.script_text.specs.Script.{most_calls};
 ghost use Rattle.varsvc.specs.FaultLines.{script_line};
 ghost use Rattle.varsvc.specs.Input.{most_read};
@@ -16,15 +16,16 @@ use crate::image_plan::{plan_foreign, plan_refused};
 use crate::input::{InputFault, read_input};
 use crate::plan::{Plan, plan_text};
 use crate::planned::Planned;
-use crate::runner::run_calls;
+use crate::queue::{Queue, queues_of};
+use crate::runner::run_queues;
 use crate::streamed::Streamed;
 use flash_dev::Flash;
 use mm_writer::Engine;
 use nv_store::LoadWhy;
 use outside::Source;
-use script_text::{Script, ScriptFault, read_script};
+use script_text::{ScriptFault, read_script};
 use std::alloc::Global;
-use var_types::{Call, TextBuffer};
+use var_types::{Call, OutOfMemory, TextBuffer};
 
 fn plan_script_fault(alloc: Global, fault: ScriptFault) -> Plan
     ensures { PlansLine 3 (script_line fault) result }
@@ -46,25 +47,24 @@ fn plan_unopened(alloc: Global, why: LoadWhy) -> Plan
     }
 }
 
-// Runs calls on an image that was opened, and closes it.
+// Runs the calls of processors on an image that was opened, and closes it.
 fn run_opened<F: Flash>(
     alloc: Global,
     engine: Engine<F>,
-    calls: Vec<Call>,
+    queues: Vec<Queue>,
     desk: Desk,
 ) -> Planned<F>
-    requires empty { desk.answered ≡ [] }
-    requires room { length calls.items ≤ desk.limit }
-    requires few { desk.limit ≤ most_calls }
-    ensures run { (input : Option (List ℕ)) (flash : F) → IsOpened F.fault_count F.moment F.left_since F.holds flash (length calls.items) engine
-        → PlansRun (told_of F.holds F.size F.fault_count F.moment F.left_since input flash result.image) calls.items result.plan }
+    requires empty { desk ≡ [] }
+    requires few { length queues.items ≤ 8 }
+    ensures run { (input : Option (List ℕ)) (flash : F) → IsOpened F.fault_count F.moment F.left_since F.holds flash (sum_by length queues.items) engine
+        → PlansRun (told_of F.holds F.size F.fault_count F.moment F.left_since input flash result.image) queues.items result.plan }
     ensures size { F.size result.image ≡ F.size engine.0 }
 {
     let mut engine = engine;
     let mut desk = desk;
     let _size = engine.non_volatile();
     let _opened = engine.trace();
-    run_calls(alloc, &mut engine, calls, &mut desk);
+    run_queues(alloc, &mut engine, queues, &mut desk);
     let _closed = engine.trace();
     let _same_size = engine.non_volatile();
     let (image, entries) = engine.release();
@@ -78,17 +78,28 @@ fn run_opened<F: Flash>(
     }
 }
 
-// Opens the image, and runs calls on it. At least one change is allowed, so that the limit is none for an empty script.
-fn run_on<F: Flash>(alloc: Global, image: F, calls: Vec<Call>, desk: Desk) -> Planned<F>
-    requires empty { desk.answered ≡ [] }
-    requires room { length calls.items ≤ desk.limit }
-    requires few { desk.limit ≤ most_calls }
-    ensures run { (input : Option (List ℕ)) → PlansRun (told_of F.holds F.size F.fault_count F.moment F.left_since input image result.image) calls.items result.plan }
+// How many calls there are.
+fn count_calls(queues: &[Queue]) -> u64
+    requires { length queues.now ≤ 8 }
+    ensures { result ≡ sum_by length queues.now }
+{
+    let mut count = 0;
+    for queue in queues {
+        count += queue.len();
+    }
+    count
+}
+
+// Opens the image, and runs the calls of processors on it. At least one change is allowed, so that the limit is none for an empty script.
+fn run_on<F: Flash>(alloc: Global, image: F, queues: Vec<Queue>, desk: Desk) -> Planned<F>
+    requires empty { desk ≡ [] }
+    requires few { length queues.items ≤ 8 }
+    ensures run { (input : Option (List ℕ)) → PlansRun (told_of F.holds F.size F.fault_count F.moment F.left_since input image result.image) queues.items result.plan }
     ensures size { F.size result.image ≡ F.size image }
 {
-    let limit = calls.len().max(1) as u64;
+    let limit = count_calls(queues.as_slice()).max(1);
     match Engine::begin(alloc, image, limit) {
-        Ok(engine) => run_opened(alloc, engine, calls, desk),
+        Ok(engine) => run_opened(alloc, engine, queues, desk),
         Err(fault) => Planned {
             plan: plan_unopened(alloc, fault.why),
             image: fault.flash,
@@ -96,27 +107,26 @@ fn run_on<F: Flash>(alloc: Global, image: F, calls: Vec<Call>, desk: Desk) -> Pl
     }
 }
 
-fn plan_calls<F: Flash>(alloc: Global, image: F, calls: Vec<Call>) -> Planned<F>
-    requires few { length calls.items ≤ most_calls }
-    ensures run { (input : Option (List ℕ)) → PlansRun (told_of F.holds F.size F.fault_count F.moment F.left_since input image result.image) calls.items result.plan }
+// Takes all memory that the answers need, before the image is opened.
+fn prepare(alloc: Global, script: Vec<Vec<Call>>) -> Result<(Vec<Queue>, Desk), OutOfMemory>
+    requires { All (λ calls. length calls ≤ most_calls) (map (λ v. v.items) script.items) }
+    ensures { IfOk result (λ ready. (ready.0.items ≡ map (λ v. v.items) script.items) × (ready.1 ≡ [])) }
+{
+    Ok((queues_of(alloc, script)?, Desk::new(alloc)?))
+}
+
+fn plan_calls<F: Flash>(alloc: Global, image: F, script: Vec<Vec<Call>>) -> Planned<F>
+    requires few { length (map (λ v. v.items) script.items) ≤ 8 }
+    requires short { All (λ calls. length calls ≤ most_calls) (map (λ v. v.items) script.items) }
+    ensures run { (input : Option (List ℕ)) → PlansRun (told_of F.holds F.size F.fault_count F.moment F.left_since input image result.image) (map (λ v. v.items) script.items) result.plan }
     ensures size { F.size result.image ≡ F.size image }
 {
-    match Desk::for_calls(alloc, calls.len()) {
-        Ok(desk) => run_on(alloc, image, calls, desk),
+    match prepare(alloc, script) {
+        Ok((queues, desk)) => run_on(alloc, image, queues, desk),
         Err(_) => Planned {
             plan: Plan::NoMemory,
             image,
         },
-    }
-}
-
-fn first_calls(alloc: Global, script: Script) -> Vec<Call>
-    ensures { (calls : _) → script ≡ calls ∷ [] → result.items ≡ calls }
-{
-    let mut processors = script.into_processors();
-    match processors.pop() {
-        Some(calls) => calls,
-        None => Vec::new(alloc),
     }
 }
 
@@ -132,7 +142,7 @@ fn plan_script<F: Flash>(alloc: Global, input: &[u8], image: F) -> Planned<F>
     ensures size { F.size result.image ≡ F.size image }
 {
     match read_script(alloc, input) {
-        Ok(script) => plan_calls(alloc, image, first_calls(alloc, script)),
+        Ok(script) => plan_calls(alloc, image, script.into_processors()),
         Err(ScriptFault::OutOfMemory) => Planned {
             plan: Plan::NoMemory,
             image,

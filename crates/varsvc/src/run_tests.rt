@@ -136,3 +136,55 @@ fn a_failed_call_of_the_flash_is_a_reply(rt: HostRuntime) -> Result<(), Fail> {
     );
     Ok(())
 }
+
+// What a script prints that is run on an image without variables.
+fn printed(alloc: Global, script: &str) -> Result<Vec<u8>, AllocError> {
+    Ok(call(alloc, "run", script, &blank(alloc)?, &[])?.text)
+}
+
+#[test]
+fn processors_make_their_calls_in_turn(rt: HostRuntime) -> Result<(), Fail> {
+    let alloc = rt.alloc();
+    // Processor 0 reads before processor 1 writes, whatever their lines' order is.
+    assert_eq!(rt;
+        printed(
+            alloc,
+            "1 set 8be4df61-93ca-11d2-aa0d-00e098032b8c A 6 01\n0 get 8be4df61-93ca-11d2-aa0d-00e098032b8c A 9\n"
+        )?
+        .as_slice(),
+        b"history 1\n0 1 0 set 8be4df61-93ca-11d2-aa0d-00e098032b8c A 0x00000006 01\nprocessor 0 calls 1\n0 0 - NOT_FOUND\nprocessor 1 calls 1\n0 0 - SUCCESS\nend\n".as_slice()
+    );
+    // Changes of three processors, in processor order.
+    assert_eq!(rt;
+        printed(
+            alloc,
+            "2 set 8be4df61-93ca-11d2-aa0d-00e098032b8c A 6 01\n1 get 8be4df61-93ca-11d2-aa0d-00e098032b8c B 9\n2 get 8be4df61-93ca-11d2-aa0d-00e098032b8c A 9\n0 set 8be4df61-93ca-11d2-aa0d-00e098032b8c B 6 02\n1 lock\n0 get 8be4df61-93ca-11d2-aa0d-00e098032b8c A 9\n"
+        )?
+        .as_slice(),
+        b"history 3\n0 0 0 set 8be4df61-93ca-11d2-aa0d-00e098032b8c B 0x00000006 02\n1 1 1 lock\n2 2 0 set 8be4df61-93ca-11d2-aa0d-00e098032b8c A 0x00000006 01\nprocessor 0 calls 2\n0 0 - SUCCESS\n1 1 - NOT_FOUND\nprocessor 1 calls 2\n0 1 - SUCCESS 0x00000006 02\n1 1 - SUCCESS\nprocessor 2 calls 2\n0 2 - SUCCESS\n1 3 - SUCCESS 0x00000006 01\nend\n".as_slice()
+    );
+    Ok(())
+}
+
+#[test]
+fn processors_without_calls_are_listed(rt: HostRuntime) -> Result<(), Fail> {
+    let alloc = rt.alloc();
+    assert_eq!(rt;
+        printed(
+            alloc,
+            "5 set 8be4df61-93ca-11d2-aa0d-00e098032b8c A 6 01\n0 get 8be4df61-93ca-11d2-aa0d-00e098032b8c A 9\n"
+        )?
+        .as_slice(),
+        b"history 1\n0 5 0 set 8be4df61-93ca-11d2-aa0d-00e098032b8c A 0x00000006 01\nprocessor 0 calls 1\n0 0 - NOT_FOUND\nprocessor 1 calls 0\nprocessor 2 calls 0\nprocessor 3 calls 0\nprocessor 4 calls 0\nprocessor 5 calls 1\n0 0 - SUCCESS\nend\n".as_slice()
+    );
+    // Processor 7 alone.
+    assert_eq!(rt;
+        printed(
+            alloc,
+            "7 set 8be4df61-93ca-11d2-aa0d-00e098032b8c A 7 01\n7 get 8be4df61-93ca-11d2-aa0d-00e098032b8c A 9\n"
+        )?
+        .as_slice(),
+        b"history 1\n0 7 0 set 8be4df61-93ca-11d2-aa0d-00e098032b8c A 0x00000007 01\nprocessor 0 calls 0\nprocessor 1 calls 0\nprocessor 2 calls 0\nprocessor 3 calls 0\nprocessor 4 calls 0\nprocessor 5 calls 0\nprocessor 6 calls 0\nprocessor 7 calls 2\n0 0 - SUCCESS\n1 1 - SUCCESS 0x00000007 01\nend\n".as_slice()
+    );
+    Ok(())
+}

@@ -47,12 +47,13 @@ fn next_reply<F: Flash>(
 fn serve_get<F: Flash>(
     alloc: Global,
     engine: &mut Engine<F>,
+    processor: u8,
     index: u32,
     call: &GetCall,
     buffer: &mut [u8],
 ) -> Reply
     requires { 65536 ≤ length buffer.old }
-    ensures { Serves F.fault_count F.moment F.left_since F.holds engine.old engine.new index (GetCalled call.now) result }
+    ensures { Serves F.fault_count F.moment F.left_since F.holds engine.old engine.new processor index (GetCalled call.now) result }
 {
     let _trace = engine.trace();
     Reply::Get(get_reply(alloc, engine, call, buffer))
@@ -61,42 +62,49 @@ fn serve_get<F: Flash>(
 fn serve_next<F: Flash>(
     alloc: Global,
     engine: &mut Engine<F>,
+    processor: u8,
     index: u32,
     call: &NextCall,
     buffer: &mut [u16],
 ) -> Reply
     requires { length buffer.old ≡ 513 }
-    ensures { Serves F.fault_count F.moment F.left_since F.holds engine.old engine.new index (NextCalled call.now) result }
+    ensures { Serves F.fault_count F.moment F.left_since F.holds engine.old engine.new processor index (NextCalled call.now) result }
 {
     let _trace = engine.trace();
     Reply::Next(next_reply(alloc, engine, call, buffer))
 }
 
-fn serve_set<F: Flash>(engine: &mut Engine<F>, index: u32, call: &SetCall) -> Reply
-    ensures { Serves F.fault_count F.moment F.left_since F.holds engine.old engine.new index (SetCalled call.now) result }
+fn serve_set<F: Flash>(engine: &mut Engine<F>, processor: u8, index: u32, call: &SetCall) -> Reply
+    ensures { Serves F.fault_count F.moment F.left_since F.holds engine.old engine.new processor index (SetCalled call.now) result }
 {
     let _trace = engine.trace();
-    Reply::Set(engine.set(0, index, call))
+    Reply::Set(engine.set(processor, index, call))
 }
 
-fn serve_policy<F: Flash>(engine: &mut Engine<F>, index: u32, call: &PolicyCall) -> Reply
-    ensures { Serves F.fault_count F.moment F.left_since F.holds engine.old engine.new index (PolicyCalled call.now) result }
+fn serve_policy<F: Flash>(
+    engine: &mut Engine<F>,
+    processor: u8,
+    index: u32,
+    call: &PolicyCall,
+) -> Reply
+    ensures { Serves F.fault_count F.moment F.left_since F.holds engine.old engine.new processor index (PolicyCalled call.now) result }
 {
     let _trace = engine.trace();
-    Reply::Policy(engine.policy(0, index, call))
+    Reply::Policy(engine.policy(processor, index, call))
 }
 
-fn serve_exit<F: Flash>(engine: &mut Engine<F>, index: u32) -> Reply
-    ensures { Serves F.fault_count F.moment F.left_since F.holds engine.old engine.new index ExitCalled result }
+fn serve_exit<F: Flash>(engine: &mut Engine<F>, processor: u8, index: u32) -> Reply
+    ensures { Serves F.fault_count F.moment F.left_since F.holds engine.old engine.new processor index ExitCalled result }
 {
     let _trace = engine.trace();
-    Reply::Exit(engine.exit_boot(0, index))
+    Reply::Exit(engine.exit_boot(processor, index))
 }
 
-/// Answers a call of processor 0, the one of this index; the buffers take what a read finds.
+/// Answers a call of a processor, the one of this index; the buffers take what a read finds.
 pub fn serve<F: Flash>(
     alloc: Global,
     engine: &mut Engine<F>,
+    processor: u8,
     index: u32,
     call: &Call,
     bytes: &mut [u8],
@@ -104,13 +112,13 @@ pub fn serve<F: Flash>(
 ) -> Reply
     requires bytes { 65536 ≤ length bytes.old }
     requires units { length units.old ≡ 513 }
-    ensures { Serves F.fault_count F.moment F.left_since F.holds engine.old engine.new index call.now result }
+    ensures { Serves F.fault_count F.moment F.left_since F.holds engine.old engine.new processor index call.now result }
 {
     match call {
-        Call::Get(call) => serve_get(alloc, engine, index, call, bytes),
-        Call::Next(call) => serve_next(alloc, engine, index, call, units),
-        Call::Set(call) => serve_set(engine, index, call),
-        Call::Policy(call) => serve_policy(engine, index, call),
-        Call::ExitBoot => serve_exit(engine, index),
+        Call::Get(call) => serve_get(alloc, engine, processor, index, call, bytes),
+        Call::Next(call) => serve_next(alloc, engine, processor, index, call, units),
+        Call::Set(call) => serve_set(engine, processor, index, call),
+        Call::Policy(call) => serve_policy(engine, processor, index, call),
+        Call::ExitBoot => serve_exit(engine, processor, index),
     }
 }

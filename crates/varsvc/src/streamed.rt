@@ -5,9 +5,20 @@ use var_trace::Session;
 #[derive(Debug, Drop)]
 pub enum Streamed {
     /// The report of a session.
-    Report { session: Session },
+    Report {
+        session: Session,
+    },
+    /// The report of a session that was played, and the listing of what a loss of power left, if it was lost.
+    Play {
+        session: Session,
+        left: Option<Content>,
+    },
     /// The listing of the variables of a content.
-    Listing { content: Content },
+    Listing {
+        content: Content,
+    },
     /// The script of a number.
-    Script { number: u32 },
+    Script {
+        number: u32,
+    },
 }

@@ -4,18 +4,18 @@ use outside::{MemSink, MemSource};
 use std::alloc::{AllocError, Global};
 use std::test::Fail;
 
-const ROOM: usize = 4096;
+pub const ROOM: usize = 4096;
 
 /// Room for a report of data of 60,000 bytes.
 const LONG_ROOM: usize = 131_072;
 
 /// A call of the program with a source and a sink in memory, whose calls of these numbers fail.
 #[derive(Drop)]
-struct Case<'a> {
-    words: &'a [&'a str],
-    script: &'a [u8],
-    source_fails: &'a [u32],
-    sink_fails: &'a [u32],
+pub struct Case<'a> {
+    pub words: &'a [&'a str],
+    pub script: &'a [u8],
+    pub source_fails: &'a [u32],
+    pub sink_fails: &'a [u32],
 }
 
 fn flash_of(bytes: Vec<u8>, fails: Vec<u32>) -> MemFlash {
@@ -42,7 +42,8 @@ fn words_of(alloc: Global, words: &[&str]) -> Result<Vec<String>, AllocError> {
     Ok(all)
 }
 
-fn run(alloc: Global, case: &Case, room: usize) -> Result<(u8, Vec<u8>), AllocError> {
+/// The status of a call of the program on an image without variables, and what it printed.
+pub fn run(alloc: Global, case: &Case, room: usize) -> Result<(u8, Vec<u8>), AllocError> {
     let words = words_of(alloc, case.words)?;
     let mut source = MemSource::new(case.script.to_vec(alloc)?, case.source_fails.to_vec(alloc)?);
     let mut sink = MemSink::new(vec![in alloc; 0u8; room]?, case.sink_fails.to_vec(alloc)?);
@@ -53,7 +54,7 @@ fn run(alloc: Global, case: &Case, room: usize) -> Result<(u8, Vec<u8>), AllocEr
 
 #[test]
 fn words_are_refused(rt: HostRuntime) -> Result<(), Fail> {
-    let cases: [(&[&str], &str); 13] = [
+    let cases: [(&[&str], &str); 17] = [
         (&[], "usage no-verb\n"),
         (&["frob"], "usage unknown-verb\n"),
         (&["Run", "vars.fd"], "usage unknown-verb\n"),
@@ -67,6 +68,10 @@ fn words_are_refused(rt: HostRuntime) -> Result<(), Fail> {
         (&["format", "--x"], "usage dash 1\n"),
         (&["format"], "usage missing 1 0\n"),
         (&["lists", "a"], "usage unknown-verb\n"),
+        (&["play", "a"], "usage extra 1\n"),
+        (&["play", "a", "b"], "usage extra 1\n"),
+        (&["play", "-a"], "usage dash 1\n"),
+        (&["play", "a", "-"], "usage dash 2\n"),
     ];
     for (words, line) in cases {
         let call = Case {
@@ -107,12 +112,8 @@ fn scripts_are_run(rt: HostRuntime) -> Result<(), Fail> {
             b"history 2\n0 0 0 set 414e6bdd-e47b-47cc-b244-bb61020cf516 Z 0x00000006 01\n1 0 1 set 8be4df61-93ca-11d2-aa0d-00e098032b8c A 0x00000002 03\nprocessor 0 calls 8\n0 0 - SUCCESS\n1 1 - SUCCESS\n2 2 - SUCCESS 8be4df61-93ca-11d2-aa0d-00e098032b8c A\n3 2 - SUCCESS 414e6bdd-e47b-47cc-b244-bb61020cf516 Z\n4 2 - NOT_FOUND end\n5 2 - BUFFER_TOO_SMALL 4\n6 2 - INVALID_PARAMETER no-such\n7 2 - INVALID_PARAMETER attributes 0x00000002 0x00000006\nend\n",
         ),
         (b"# no call\n\n0 fly\n", 3, b"script line 3 verb\n"),
-        (b"1 lock", 3, b"script line 1 later\n"),
-        (
-            b"1 get 8be4df61-93ca-11d2-aa0d-00e098032b8c A 9\n",
-            3,
-            b"script line 1 later\n",
-        ),
+        (b"1 fly", 3, b"script line 1 verb\n"),
+        (b"8 lock\n", 3, b"script line 1 processor\n"),
         (
             b"0 set 8be4df61-93ca-11d2-aa0d-00e098032b8c A 7 01 perhaps\n",
             3,
@@ -133,8 +134,8 @@ fn scripts_are_run(rt: HostRuntime) -> Result<(), Fail> {
     Ok(())
 }
 
-// A script of texts, each so many times.
-fn script_of(alloc: Global, parts: &[(&str, usize)]) -> Result<Vec<u8>, AllocError> {
+/// A script of texts, each so many times.
+pub fn script_of(alloc: Global, parts: &[(&str, usize)]) -> Result<Vec<u8>, AllocError> {
     let mut script = Vec::new(alloc);
     for (text, count) in parts {
         for _ in 0..*count {
@@ -148,8 +149,9 @@ fn script_of(alloc: Global, parts: &[(&str, usize)]) -> Result<Vec<u8>, AllocErr
 fn limits_are_printed_with_their_numbers(rt: HostRuntime) -> Result<(), Fail> {
     let set = "0 set 8be4df61-93ca-11d2-aa0d-00e098032b8c ";
     let get = "0 get 8be4df61-93ca-11d2-aa0d-00e098032b8c A 9\n";
+    let other = "5 get 8be4df61-93ca-11d2-aa0d-00e098032b8c A 9\n";
     let end = "\n";
-    let cases: [(&[(&str, usize)], u8, &str); 5] = [
+    let cases: [(&[(&str, usize)], u8, &str); 6] = [
         (
             &[(set, 1), ("A 6 ", 1), ("01", 33_729), (end, 1)],
             0,
@@ -179,6 +181,8 @@ fn limits_are_printed_with_their_numbers(rt: HostRuntime) -> Result<(), Fail> {
         ),
         (&[("#", 1_048_577)], 3, "script bytes 1048576\n"),
         (&[(get, 20_001)], 3, "script calls 0 20000\n"),
+        // Each processor has its own.
+        (&[(get, 1), (other, 20_001)], 3, "script calls 5 20000\n"),
     ];
     for (parts, status, last) in cases {
         let script = script_of(rt.alloc(), parts)?;

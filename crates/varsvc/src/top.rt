@@ -38,8 +38,8 @@ fn perform<S: Source, K: Sink, F: Flash>(
     }
 }
 
-/// The whole program but for running scripts: lists, checks or formats an image as the words ask, or says why they are refused. It reads nothing of
-/// the source. Statuses as of `varsvc`.
+/// The whole program but for running scripts on an image: plays a script with a schedule, lists, checks or formats an image, or prints what a
+/// number stands for, as the words ask, or says why they are refused. It reads nothing of the source but for a play. Statuses as of `varsvc`.
 pub fn varsvc_plain<S: Source, K: Sink, F: Flash>(
     alloc: Global,
     words: &[String],
@@ -56,7 +56,7 @@ pub fn varsvc_plain<S: Source, K: Sink, F: Flash>(
 }
 
 /// The whole program: reads the words, and does as they ask: reads a script from its source to its end and runs it on the image with one
-/// processor; or lists, checks or formats the image; and prints the outcome to its sink. Statuses: 0 all was done; 2 the words, 3 the script,
+/// processor; or plays a script with a schedule; or lists, checks or formats the image; and prints the outcome to its sink. Statuses: 0 all was done; 2 the words, 3 the script,
 /// 4 the image is refused; 5 the sink, 6 the source failed, 7 the flash before anything was run; 8 the call is out of memory, or replies of a
 /// run are. A call of the flash that fails within a run is a reply, and no status.
 pub fn varsvc<S: Source, K: Sink, F: Flash + Send>(

@@ -6,6 +6,7 @@ ghost use Rattle.varsvc.specs.Order.{verb_of};
 #[derive(Clone, Copy, Debug, PartialEq, Eq)]
 pub enum Verb {
     Run,
+    Play,
     List,
     Check,
     Format,
@@ -19,6 +20,7 @@ pub fn verb_of(word: &String) -> Option<Verb>
 {
     match word.as_str() {
         "run" => Some(Verb::Run),
+        "play" => Some(Verb::Play),
         "list" => Some(Verb::List),
         "check" => Some(Verb::Check),
         "format" => Some(Verb::Format),
@@ -28,12 +30,13 @@ pub fn verb_of(word: &String) -> Option<Verb>
     }
 }
 
-/// What the word behind a verb is called.
+/// What the word behind a verb is called; a play takes none.
 pub fn operand_word(verb: Verb) -> &'static str
     ensures { result.now ≡ operand_word verb }
 {
     match verb {
         Verb::Run | Verb::List | Verb::Check | Verb::Format => "image",
         Verb::Make | Verb::Work => "number",
+        Verb::Play => "",
     }
 }

@@ -1,7 +1,7 @@
-ghost use Rattle.std.specs.Prelude.{◌≡◌, ◌==◌, ◌<◌, ℕ, List, ◌∷◌, length, map, position, string_bytes, None, Some, IfSome, MatchResult};
+ghost use Rattle.std.specs.Prelude.{◌≡◌, ◌≢◌, ◌==◌, ◌<◌, ℕ, List, ◌∷◌, length, map, position, string_bytes, None, Some, IfSome, MatchResult};
 ghost use Rattle.clap.specs.Words.{subcommand_rows_of};
 ghost use Rattle.varsvc.specs.Cli.{operand_in, operand_word, verb_word};
-ghost use Rattle.varsvc.specs.Order.{order_of, verb_order, operand_order, is_dashed, order_with, wanted_number, GivesOrder, IsUsage};
+ghost use Rattle.varsvc.specs.Order.{order_of, verb_order, operand_order, one_operand, no_operand, is_dashed, order_with, wanted_number, GivesOrder, IsUsage};
 
 use crate::image_name::ImageName;
 use crate::number::number_of;
@@ -55,6 +55,7 @@ fn order_with(alloc: Global, verb: Verb, word: &str) -> Result<Order, UsageFault
         Verb::Run => Ok(Order::Run {
             image: name_of(alloc, word)?,
         }),
+        Verb::Play => Err(UsageFault::Extra { at: 1 }),
         Verb::List => Ok(Order::List {
             image: name_of(alloc, word)?,
         }),
@@ -79,6 +80,7 @@ fn refused_operand(verb: Verb, word: &String) -> UsageFault
 {
     match verb {
         Verb::Run | Verb::List | Verb::Check | Verb::Format => UsageFault::OutOfMemory,
+        Verb::Play => UsageFault::Extra { at: 1 },
         Verb::Make | Verb::Work => match wanted_number(word.as_str()) {
             Ok(_) => UsageFault::OutOfMemory,
             Err(fault) => fault,
@@ -88,7 +90,7 @@ fn refused_operand(verb: Verb, word: &String) -> UsageFault
 
 // Why the words behind a verb are refused, where the parsing of them is out of memory: their number decides.
 fn refusal_by_number(verb: Verb, rest: &[String]) -> UsageFault
-    ensures { IsUsage result (operand_order verb (map string_bytes rest.now)) }
+    ensures { IsUsage result (one_operand verb (map string_bytes rest.now)) }
 {
     match rest {
         [] => UsageFault::Missing { want: 1, have: 0 },
@@ -106,7 +108,39 @@ fn parsed_order(alloc: Global, verb: Verb, matches: &ArgMatches<'_>) -> Result<O
     }
 }
 
-// What a verb and the words behind it ask for, by the parse of at most three of them: a fourth changes nothing.
+// What a verb and the one word behind it ask for, by the parse of at most three of them: a fourth changes nothing.
+fn one_operand(
+    alloc: Global,
+    verb: Verb,
+    words: &[String],
+    rest: &[String],
+) -> Result<Order, UsageFault>
+    requires other { verb ≢ Verb.Play }
+    requires words { map string_bytes words.now ≡ verb_word verb ∷ map string_bytes rest.now }
+    requires undashed { position is_dashed (map string_bytes rest.now) ≡ None }
+    ensures { GivesOrder result (one_operand verb (map string_bytes rest.now)) }
+{
+    match parse(alloc, &words[..MOST_WORDS.min(words.len())]) {
+        Ok(matches) => parsed_order(alloc, verb, &matches),
+        Err(error) => match error.kind() {
+            ErrorKind::OutOfMemory => Err(refusal_by_number(verb, rest)),
+            kind => Err(refusal_of(kind)),
+        },
+    }
+}
+
+// What the words behind a play ask for.
+fn no_operand(rest: &[String]) -> Result<Order, UsageFault>
+    ensures { GivesOrder result (no_operand (map string_bytes rest.now)) }
+{
+    if rest.is_empty() {
+        Ok(Order::Play)
+    } else {
+        Err(UsageFault::Extra { at: 1 })
+    }
+}
+
+// What a verb and the words behind it ask for, of which none begins with a dash.
 fn operand_order(
     alloc: Global,
     verb: Verb,
@@ -117,12 +151,9 @@ fn operand_order(
     requires undashed { position is_dashed (map string_bytes rest.now) ≡ None }
     ensures { GivesOrder result (operand_order verb (map string_bytes rest.now)) }
 {
-    match parse(alloc, &words[..MOST_WORDS.min(words.len())]) {
-        Ok(matches) => parsed_order(alloc, verb, &matches),
-        Err(error) => match error.kind() {
-            ErrorKind::OutOfMemory => Err(refusal_by_number(verb, rest)),
-            kind => Err(refusal_of(kind)),
-        },
+    match verb {
+        Verb::Play => no_operand(rest),
+        _ => one_operand(alloc, verb, words, rest),
     }
 }
 

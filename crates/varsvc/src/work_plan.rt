@@ -4,17 +4,17 @@ ghost use Rattle.image_make.specs.Generated.{generated_calls, script_calls};
 ghost use Rattle.mm_writer.specs.Side.{first_state, state_of};
 ghost use Rattle.report_text.specs.Sizes.{sizes_of};
 ghost use Rattle.report_text.specs.Summary.{replies_of, summary_line, summary_of};
-ghost use Rattle.script_text.specs.Script.{most_calls};
 ghost use Rattle.var_types.specs.Layout.{longest_region};
 ghost use Rattle.var_types.specs.State.{start};
 ghost use Rattle.var_types.specs.Stores.{first_offset, map_in};
 ghost use Rattle.varsvc.specs.Plan.{PlansLine};
-ghost use Rattle.varsvc.specs.Runs.{lacks_any};
+ghost use Rattle.varsvc.specs.Runs.{lacks_one};
 ghost use Rattle.varsvc.specs.Work.{work_summary};
 
 use crate::desk::Desk;
 use crate::plan::{Plan, plan_text};
-use crate::print::lacks_any;
+use crate::print::lacks_one;
+use crate::queue::Queue;
 use crate::runner::run_calls;
 use flash_dev::Flash;
 use image_make::{SCRIPT_CALLS, blank_flash, generated_calls};
@@ -22,7 +22,8 @@ use mm_writer::Engine;
 use report_text::{Sizes, Summary, summary_of, variable_sizes, write_summary};
 use std::alloc::Global;
 use var_region::region_in;
-use var_types::{Call, OutOfMemory, Store, TextBuffer};
+use var_trace::Answers;
+use var_types::{OutOfMemory, Store, TextBuffer};
 
 // The sizes of the variables in a store's bytes.
 #[tactic(auto, unfolding(var_types::specs::Stores::map_in))]
@@ -49,48 +50,49 @@ fn engine_sizes<F: Flash>(alloc: Global, engine: &Engine<F>) -> Result<Sizes, Ou
 }
 
 // What answered calls come to, none of which was out of memory.
-fn summed<F: Flash>(alloc: Global, engine: &Engine<F>, desk: &Desk) -> Result<Summary, OutOfMemory>
-    ensures able { OnOk result (lacks_any desk.now.answered ≡ false) }
-    ensures summary { IfOk result (λ summary. summary ≡ summary_of (replies_of desk.now.answered) (sizes_of (state_of engine.now.1.1).variables)) }
+fn summed<F: Flash>(
+    alloc: Global,
+    engine: &Engine<F>,
+    answers: &Answers,
+) -> Result<Summary, OutOfMemory>
+    ensures able { OnOk result (lacks_one answers.now.answered ≡ false) }
+    ensures summary { IfOk result (λ summary. summary ≡ summary_of (replies_of answers.now.answered) (sizes_of (state_of engine.now.1.1).variables)) }
 {
-    if lacks_any(&desk.answers) {
+    if lacks_one(answers) {
         return Err(OutOfMemory);
     }
     let sizes = engine_sizes(alloc, engine)?;
-    Ok(summary_of(desk.answers.as_slice(), sizes))
+    Ok(summary_of(answers.as_slice(), sizes))
 }
 
 // What the calls of a script come to on services without variables, over a flash that never fails.
 fn worked_on<F: Flash>(
     alloc: Global,
     engine: Engine<F>,
-    calls: Vec<Call>,
+    queue: Queue,
     desk: Desk,
 ) -> Result<Summary, OutOfMemory>
     requires sure { (f : F) → F.fault_count f ≡ 0 }
     requires first { first_state engine.1.1 ≡ start [] script_calls }
     requires unchanged { engine.1.1.log ≡ [] }
     requires undoubted { engine.1.0 ≡ None }
-    requires empty { desk.answered ≡ [] }
-    requires room { length calls.items ≤ desk.limit }
-    requires few { desk.limit ≤ most_calls }
-    ensures { (number : _) → calls.items ≡ generated_calls number → IfOk result (λ summary. summary ≡ work_summary number) }
+    ensures { (number : _) → queue ≡ generated_calls number → IfOk result (λ summary. summary ≡ work_summary number) }
 {
     let mut engine = engine;
     let mut desk = desk;
     let _opened = engine.trace();
-    run_calls(alloc, &mut engine, calls, &mut desk);
-    summed(alloc, &engine, &desk)
+    let answers = run_calls(alloc, &mut engine, 0, queue, &mut desk);
+    summed(alloc, &engine, &answers)
 }
 
 fn worked(alloc: Global, number: u32) -> Result<Summary, OutOfMemory>
     ensures { IfOk result (λ summary. summary ≡ work_summary number) }
 {
-    let calls = generated_calls(alloc, number)?;
-    let desk = Desk::for_calls(alloc, calls.len())?;
+    let queue = Queue::new(alloc, generated_calls(alloc, number)?)?;
+    let desk = Desk::new(alloc)?;
     let flash = blank_flash(alloc)?;
     match Engine::begin(alloc, flash, u64::from(SCRIPT_CALLS)) {
-        Ok(engine) => worked_on(alloc, engine, calls, desk),
+        Ok(engine) => worked_on(alloc, engine, queue, desk),
         Err(_) => Err(OutOfMemory),
     }
 }

@@ -1,4 +1,5 @@
-use Rattle.varsvc.proofs.BlankImages.{census-blank_image, kept-blank_image}
+use Rattle.image_make.proofs.BlankImages.{kept-blank_image}
+use Rattle.varsvc.proofs.BlankImages.{census-blank_image}
 use Rattle.varsvc.proofs.laws.blank_images_keep_nothing.Goals as goal
 
 pub returns-clause-variables : goal.returns-clause-variables

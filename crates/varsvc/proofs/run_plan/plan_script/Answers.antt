@@ -1,44 +1,36 @@
-use Rattle.std.proofs.Common.{◌≡◌, ◌≤◌, List, [], ◌∷◌, length, None, Ok, ap, sym, subst, ◌∙◌}
+use Rattle.std.proofs.Common.{◌≤◌, List, length, All, None, Ok, sym, subst}
 use Rattle.script_text.specs.Script.{most_calls}
 use Rattle.var_types.specs.declared.call.Call.{Call}
 use Rattle.varsvc.proofs.Runs.{of_left, right_fits, run_fails, run_status, run_text, run_unprinted, script_is_short}
-use Rattle.varsvc.proofs.Scripts.{few_calls, one_of}
 use Rattle.varsvc.specs.RunPlan.{PlansRun}
 use Rattle.varsvc.specs.Told.{told_of}
 use Rattle.varsvc.proofs.run_plan.plan_script.Goals as goal
 
 pub plan_calls-requires : goal.plan_calls-requires
 plan_calls-requires g c =
-    let one = one_of c.in-Ok.script c.in-Ok.ensures.one_processor in
+    let same = c.into_processors.ensures in
     record {
-      few =
-          subst (λ (calls : List Call). length calls ≤ most_calls) (sym (c.first_calls.ensures one.0 one.1))
-          (few_calls c.args.input.now one.0 (c.in-Ok.ensures.script ∙ ap (λ (s : List (List Call)). Ok s) one.1));
+      few = subst (λ (script : List (List Call)). length script ≤ 8) (sym same) c.in-Ok.ensures.few;
+      short = subst (All (λ (calls : List Call). length calls ≤ most_calls)) (sym same) c.in-Ok.ensures.short;
     }
 
 pub returns-in-Ok-clause-text : goal.returns-in-Ok-clause-text
 returns-in-Ok-clause-text g c = λ left same values.
-    let one = one_of c.in-Ok.script c.in-Ok.ensures.one_processor in
-    let plan = c.plan_calls.result.plan in
     let told = told_of g.F.Flash.holds g.F.Flash.size g.F.Flash.fault_count g.F.Flash.moment g.F.Flash.left_since left c.args.image c.plan_calls.result.image in
-    run_text right_fits told one.0
-    (of_left left c.args.input.now (Ok (one.0 ∷ [])) same (c.in-Ok.ensures.script ∙ ap (λ (s : List (List Call)). Ok s) one.1)) plan
-    (subst (λ (calls : List Call). PlansRun told calls plan) (c.first_calls.ensures one.0 one.1) (c.plan_calls.ensures.run left)) values
+    run_text right_fits told c.in-Ok.script (of_left left c.args.input.now (Ok c.in-Ok.script) same c.in-Ok.ensures.script) c.plan_calls.result.plan
+    (subst (λ (script : List (List Call)). PlansRun told script c.plan_calls.result.plan) c.into_processors.ensures (c.plan_calls.ensures.run left)) values
 
 pub returns-in-Ok-clause-unprinted : goal.returns-in-Ok-clause-unprinted
 returns-in-Ok-clause-unprinted g c = λ left same streamed.
-    let one = one_of c.in-Ok.script c.in-Ok.ensures.one_processor in
-    let plan = c.plan_calls.result.plan in
     let told = told_of g.F.Flash.holds g.F.Flash.size g.F.Flash.fault_count g.F.Flash.moment g.F.Flash.left_since left c.args.image c.plan_calls.result.image in
-    run_unprinted right_fits told one.0
-    (of_left left c.args.input.now (Ok (one.0 ∷ [])) same (c.in-Ok.ensures.script ∙ ap (λ (s : List (List Call)). Ok s) one.1)) plan
-    (subst (λ (calls : List Call). PlansRun told calls plan) (c.first_calls.ensures one.0 one.1) (c.plan_calls.ensures.run left)) streamed
+    run_unprinted right_fits told c.in-Ok.script (of_left left c.args.input.now (Ok c.in-Ok.script) same c.in-Ok.ensures.script) c.plan_calls.result.plan
+    (subst (λ (script : List (List Call)). PlansRun told script c.plan_calls.result.plan) c.into_processors.ensures (c.plan_calls.ensures.run left)) streamed
 
 pub returns-in-Ok-clause-flash : goal.returns-in-Ok-clause-flash
-returns-in-Ok-clause-flash g c = λ left. run_fails _ c.first_calls.result.items c.plan_calls.result.plan (c.plan_calls.ensures.run left)
+returns-in-Ok-clause-flash g c = λ left. run_fails _ _ c.plan_calls.result.plan (c.plan_calls.ensures.run left)
 
 pub returns-in-Ok-clause-was_read : goal.returns-in-Ok-clause-was_read
-returns-in-Ok-clause-was_read g c = run_status _ c.first_calls.result.items c.plan_calls.result.plan (c.plan_calls.ensures.run None)
+returns-in-Ok-clause-was_read g c = run_status _ _ c.plan_calls.result.plan (c.plan_calls.ensures.run None)
 
 pub returns-in-Ok-clause-short : goal.returns-in-Ok-clause-short
 returns-in-Ok-clause-short g c = λ done. script_is_short c.args.input.now c.in-Ok.script c.in-Ok.ensures.script

@@ -1,8 +1,5 @@
-use Rattle.std.proofs.Common.{◌≡◌, ap, sym, ◌∙◌, subst, List, ℕ, Option, Some, true≢false}
-use Rattle.runtime_cache.specs.Copies.{IsGetAnswered}
-use Rattle.var_types.specs.Answers.{get_answer}
+use Rattle.std.proofs.Common.{ap, sym, ◌∙◌, List, ℕ, true≢false}
 use Rattle.var_types.specs.declared.call.GetCall.{GetCall}
-use Rattle.var_types.specs.declared.reply.GetReply.{GetReply}
 use Rattle.var_types.specs.declared.reply.Reply.TheVariants.{Get as GetReplied}
 use Rattle.var_types.specs.Get.{get_reply}
 use Rattle.var_types.specs.Step.{step}

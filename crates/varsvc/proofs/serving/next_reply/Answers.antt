@@ -1,8 +1,5 @@
-use Rattle.std.proofs.Common.{◌≡◌, ap, sym, ◌∙◌, subst, List, ℕ, Option, Some, true≢false}
-use Rattle.runtime_cache.specs.Copies.{IsNextAnswered}
-use Rattle.var_types.specs.Answers.{next_answer}
+use Rattle.std.proofs.Common.{ap, sym, ◌∙◌, List, ℕ, true≢false}
 use Rattle.var_types.specs.declared.call.NextCall.{NextCall}
-use Rattle.var_types.specs.declared.reply.NextReply.{NextReply}
 use Rattle.var_types.specs.declared.reply.Reply.TheVariants.{Next as NextReplied}
 use Rattle.var_types.specs.Next.{next_reply}
 use Rattle.var_types.specs.Step.{step}

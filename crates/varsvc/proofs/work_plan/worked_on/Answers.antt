@@ -1,11 +1,8 @@
-use Rattle.std.proofs.Common.{◌≡◌, ℕ, List, Ok, Err, Result, false, IfOk, OnOk, ◌∙◌}
-use Rattle.mm_writer.specs.Side.{first_state, state_of}
+use Rattle.std.proofs.Common.{List, [], ◌∷◌, Ok, Err, Result, refl, IfOk, OnOk, ◌∙◌}
+use Rattle.mm_writer.specs.Side.{first_state}
 use Rattle.report_text.specs.declared.summary.Summary.{Summary}
-use Rattle.report_text.specs.Sizes.{sizes_of}
-use Rattle.report_text.specs.Summary.{replies_of, summary_of}
 use Rattle.var_types.specs.declared.answered.Answered.{Answered}
 use Rattle.var_types.specs.State.{State}
-use Rattle.varsvc.specs.Runs.{failures, lacks_any}
 use Rattle.varsvc.proofs.Worked.{no_failures, run_none, worked}
 use Rattle.varsvc.proofs.work_plan.worked_on.Goals as goal
 
@@ -17,10 +14,11 @@ on_ok (Err e) P Q R p q follows = tt
 pub returns : goal.returns
 returns g c = λ number is.
     let old = c.args.engine in
-    let new = c.run_calls.new.engine in
-    let xs : List Answered = c.run_calls.new.desk.answered in
+    let new = c.run_calls-answers.new.engine in
+    let xs : List Answered = c.run_calls-answers.result.answered in
     let first : State = first_state old.1.1 in
-    let ran = c.run_calls.ensures.run first old.0 (run_none old c.requires.unchanged c.requires.undoubted c.trace-opened.ensures.kept) in
-    let none : failures xs ≡ 0 = no_failures first old.0 new xs ran c.requires.sure in
+    let ran = c.run_calls-answers.ensures.run first old.0 [] refl (run_none old c.requires.unchanged c.requires.undoubted c.trace-opened.ensures.kept) in
+    let none = no_failures first old.0 new (xs ∷ []) ran c.requires.sure in
     on_ok c.summed.result _ _ _ c.summed.ensures.able c.summed.ensures.summary
-    (λ (s : Summary) able sum. sum ∙ worked number new.1.1 first xs c.requires.first ran.opened ran.log ran.legal none able (c.run_calls.ensures.calls ∙ is))
+    (λ (s : Summary) able sum.
+    sum ∙ worked number new.1.1 first xs c.requires.first ran.opened ran.log ran.legal ran.in_turn none able (c.run_calls-answers.ensures.calls ∙ is))

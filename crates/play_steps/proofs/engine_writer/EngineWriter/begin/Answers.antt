@@ -1,6 +1,6 @@
-use Rattle.std.proofs.Common.{◌≡◌, List, ℕ, None, sym, ap, subst, ◌∙◌}
+use Rattle.std.proofs.Common.{◌≡◌, None, sym, ap, subst, ◌∙◌}
 use Rattle.mm_writer.specs.Engine.{opened_side}
-use Rattle.mm_writer.specs.Side.{Side, state_of}
+use Rattle.mm_writer.specs.Side.{state_of}
 use Rattle.play_steps.proofs.Openings.{opening_is, state_first}
 use Rattle.play_steps.specs.EngineWriter.{EngineState}
 use Rattle.play_steps.specs.ListedFlash.{ListedState, bytes_of}

@@ -1,10 +1,9 @@
-use Rattle.std.proofs.Common.{◌≡◌, ◌+◌, ◌*◌, ◌≤◌, List, length, sym, ap, subst, ◌∙◌, arith}
-use Rattle.flash_dev.proofs.Left.{none_leaves}
-use Rattle.flash_dev.specs.Rules.{IsEraseLeft, IsProgramLeft, block_filled, programmed}
-use Rattle.svc_core.specs.declared.flash_step.FlashStep.TheVariants.{Erase, Program}
+use Rattle.std.proofs.Common.{◌≡◌, length, sym, ap, subst, ◌∙◌, arith}
+use Rattle.flash_dev.specs.Rules.{IsEraseLeft}
+use Rattle.svc_core.specs.declared.flash_step.FlashStep.TheVariants.{Erase}
 use Rattle.svc_core.specs.FlashSteps.{StepFits, after_step}
 use Rattle.var_types.specs.Layout.{image_size}
-use Rattle.play_steps.proofs.Listed.{bytes_done, listed_more, size_done, stays_done, stays_unlisted}
+use Rattle.play_steps.proofs.Listed.{bytes_done, listed_more, size_done, stays_done}
 use Rattle.play_steps.specs.ListedFlash.{ListedState, StaysListed, bytes_of}
 use Rattle.play_steps.proofs.listed_flash.ListedFlashFlash.erase.Goals as goal
 

@@ -4,9 +4,9 @@ use Rattle.clap.specs.Words.{fault_of, IsAmong, kind_of, subcommand_of, subcomma
 use Rattle.varsvc.specs.declared.usage.UsageFault.{UsageFault}
 use Rattle.varsvc.specs.declared.verb.Verb.{Verb}
 use Rattle.varsvc.specs.Cli.{cli, operand_in, operand_word, refusal_of, verb_word}
-use Rattle.varsvc.specs.Order.{GivesOrder, IsUsage, operand_order}
+use Rattle.varsvc.specs.Order.{GivesOrder, IsUsage, one_operand}
 use Rattle.varsvc.proofs.Cli.{parsed_none, parsed_one}
-use Rattle.varsvc.proofs.words.operand_order.Goals as goal
+use Rattle.varsvc.proofs.words.one_operand.Goals as goal
 
 -- the words that are parsed
 few : (v : Verb) (words rest : List (String Global)) (n : ℕ) → n ≡ min 3 (length words)
@@ -23,10 +23,10 @@ returns-in-Ok c =
     let v = c.args.verb in
     let rest = map (string_bytes {Z = Global}) c.args.rest.now in
     let words = few v c.args.words.now c.args.rest.now c.min.result c.min.ensures c.requires.words in
-    let one = parsed_one v rest c.requires.undashed (subst (λ (ws : List (List ℕ)). fault_of cli ws ≡ []) words c.in-Ok.ensures.kinds) in
+    let one = parsed_one v rest c.requires.other c.requires.undashed (subst (λ (ws : List (List ℕ)). fault_of cli ws ≡ []) words c.in-Ok.ensures.kinds) in
     let found : operand_in (operand_word v) (subcommand_rows_of c.in-Ok.matches) ≡ Some one.0 =
     ap (operand_in (operand_word v)) ((c.in-Ok.ensures.matches refl).1 ∙ ap (subcommand_of cli) words) ∙ one.2 in
-    subst (λ (behind : List (List ℕ)). GivesOrder c.parsed_order.result (operand_order v behind)) (sym one.1) (c.parsed_order.ensures one.0 found)
+    subst (λ (behind : List (List ℕ)). GivesOrder c.parsed_order.result (one_operand v behind)) (sym one.1) (c.parsed_order.ensures one.0 found)
 
 pub returns : goal.returns
 returns c =
@@ -36,7 +36,7 @@ returns c =
     ⊎_elim
     (λ memory. absurd (c.in_default.not-OutOfMemory (c.kind.ensures ∙ memory)))
     (λ among.
-    subst (λ (fault : UsageFault). IsUsage fault (operand_order v rest)) (sym (c.refusal_of.ensures ∙ ap refusal_of c.kind.ensures))
-    (parsed_none v rest (kind_of c.in-Err.error) c.requires.undashed
+    subst (λ (fault : UsageFault). IsUsage fault (one_operand v rest)) (sym (c.refusal_of.ensures ∙ ap refusal_of c.kind.ensures))
+    (parsed_none v rest (kind_of c.in-Err.error) c.requires.other c.requires.undashed
     (subst (λ (ws : List (List ℕ)). IsAmong (kind_of c.in-Err.error) (fault_of cli ws)) words among)))
     c.in-Err.ensures.kinds

@@ -1,6 +1,6 @@
 #!/usr/bin/env bash
 # Times of sets beside a full table of policies: 1,024 entries of one namespace, and 16,000 sets of a name that none, one or all of them
-# cover. A script holds no more: it has at most 1,048,576 bytes.
+# cover, in the last case with the entry that counts registered first, and last. A script holds no more: it has at most 1,048,576 bytes.
 # usage: bench/policies.sh [PROGRAM]      (default: the program that ./varsvc builds)
 set -eu
 top="$(cd "$(dirname "${BASH_SOURCE[0]}")/.." && pwd)"
@@ -34,7 +34,7 @@ def names():
 
 
 def script(entries, name):
-    lines = [f"0 register {entry(other)}" for other in names()] if entries else []
+    lines = [f"0 register {entry(other)}" for other in entries]
     lines += [f"0 set {VENDOR} {name} 6 {i % 256:02x}" for i in range(SETS)]
     text = ("\n".join(lines) + "\n").encode()
     assert len(text) <= MOST_BYTES
@@ -57,18 +57,20 @@ def measure(program, text):
 
 
 def main(program):
+    first, last = list(names()), list(names())[::-1]
     cases = [
-        ("no policies", False, DIGITS),
-        ("none covers", True, "abcdefghij"),
-        ("one covers", True, "1234567890"),
-        ("all cover", True, DIGITS),
+        ("no policies", [], DIGITS),
+        ("none covers", first, "abcdefghij"),
+        ("one covers", first, "1234567890"),
+        ("all, first", first, DIGITS),
+        ("all, last", last, DIGITS),
     ]
     base = None
     slow = False
     for label, entries, name in cases:
         seconds, report = measure(program, script(entries, name))
         changes = int(report.split("\n", 1)[0].split()[1])
-        assert changes == SETS + (ENTRIES if entries else 0), (label, changes)
+        assert changes == SETS + len(entries), (label, changes)
         base = seconds if base is None else base
         extra = (seconds - base) / SETS * 1e6
         print(f"{label:12} {seconds:7.3f} s   a set {seconds / SETS * 1e6:7.2f} us   beside no policies {extra:+7.2f} us")

@@ -1,17 +1,17 @@
 -- What the flash keeps, in words of the side's state; and when a set may answer that the flash failed.
-use Rattle.std.proofs.Common.{◌≡◌, ℕ, ◌⊎◌, true, cond, List, Option, Some, None, IfSome, sym, ap, subst, ◌∙◌, inl, inr, ⊎_elim, true≢false, is_eq}
+use Rattle.std.proofs.Common.{◌≡◌, ◌≢◌, ℕ, ◌⊎◌, true, false, cond, List, Option, Some, None, IfSome, refl, sym, ap, subst, ◌∙◌, inl, inr, ⊎_elim, true≢false, is_eq, arith}
 use Rattle.std.proofs.lemmas.Cmp.{tied_itself}
 use Rattle.std.specs.BTreeMap.{is_at}
 use Rattle.std.specs.Map.{lookup}
 use Rattle.std.specs.Prelude.{IsSomeAnd}
-use Rattle.flash_dev.proofs.Moments.{stays_weaken}
+use Rattle.flash_dev.proofs.Moments.{stays_none, stays_weaken}
 use Rattle.flash_dev.specs.Moments.{Stays}
 use Rattle.mm_writer.proofs.Edits.{non_volatile_there, other_part, same_part}
 use Rattle.mm_writer.proofs.Sides.{means_now}
 use Rattle.mm_writer.specs.declared.edit.Edit.{Edit}
 use Rattle.mm_writer.specs.declared.edit.Edit.TheVariants.{Put, Remove}
 use Rattle.mm_writer.specs.Edit.{MayEdit, edit_key, edited}
-use Rattle.mm_writer.specs.Outcome.{IsAnswered, IsKeptBy, IsSetLeft}
+use Rattle.mm_writer.specs.Outcome.{AnswersSet, IsAnswered, IsKeptBy, IsSetLeft}
 use Rattle.mm_writer.specs.Side.{IsConsistent, Side, state_of}
 use Rattle.nv_store.specs.Outcome.{IsChangeLeft}
 use Rattle.var_region.specs.NewRecord.{new_key, new_variable}
@@ -25,12 +25,13 @@ use Rattle.var_types.specs.declared.reply.SetReply.{SetReply}
 use Rattle.var_types.specs.declared.reply.SetReply.TheVariants.{Device, Ok as Changed}
 use Rattle.var_types.specs.declared.store.Store.TheVariants.{NonVolatile, Volatile}
 use Rattle.var_types.specs.declared.variable.Variable.{Variable}
-use Rattle.var_types.specs.DeviceErrors.{HasNonVolatile}
+use Rattle.var_types.specs.DeviceErrors.{HasNonVolatile, IsReplyIn}
 use Rattle.var_types.specs.Kept.{kept}
 use Rattle.var_types.specs.Key.{key_cmp, key_of}
 use Rattle.var_types.specs.Reading.{set_key}
 use Rattle.var_types.specs.Set.{changed, set_step}
 use Rattle.var_types.specs.State.{State, stored_at}
+use Rattle.var_types.specs.Step.{is_change}
 use Rattle.var_types.specs.Stores.{map_in, part}
 
 -- a flash that keeps the mirror's variables keeps the side's
@@ -49,6 +50,30 @@ kept_volatile side next edit c may left (Some image) is =
 -- one that is told
 pub told_kept : (side : Side) (told : Option (List ℕ)) (image : List ℕ) → IfSome told (IsKeptBy side) → told ≡ Some image → IsKeptBy side image
 told_kept side told image is e = subst (λ o. IfSome o (IsKeptBy side)) e is
+
+-- a set may leave the image as it was
+pub left_itself : (side : Side) (call : SetCall) (told : Option (List ℕ)) (image : List ℕ) → IfSome told (IsKeptBy side) → told ≡ Some image
+    → IsSetLeft side call image image
+left_itself side call told image is e = record { kept = inl (told_kept side told image is e); headers = refl; sound = λ h. h }
+
+-- a set that is no change and meets no failure leaves all as it was
+pub answers_unchanged : {F : Type 0} (moment : F → ℕ) (left_since : F → ℕ → List ℕ → Type 0) (holds : F → Option (List ℕ)) (fault_count : F → ℕ)
+    (engine : F × (Option (List ℕ) × Side)) (processor index : ℕ) (call : SetCall) (reply : SetReply) → is_change (SetReplied reply) ≡ false → reply ≢ Device
+    → IsReplyIn (state_of engine.1.1) (SetCalled call) (SetReplied reply) → (engine.1.0 ≡ None → IfSome (holds engine.0) (IsKeptBy engine.1.1))
+    → AnswersSet moment left_since holds fault_count engine engine processor index call reply
+answers_unchanged {F} moment left_since holds fault_count engine processor index call reply no_change no_fault right keeps =
+    let changes : reply ≡ Changed → ⊥ = λ e. true≢false (sym (ap (λ (r : SetReply). is_change (SetReplied r)) e) ∙ no_change) in
+    record {
+      answered = record { right = right; change = λ e. absurd (true≢false (sym e ∙ no_change)); same = λ _. refl };
+      untouched = λ _ _. refl;
+      same_doubt = λ _ _. refl;
+      sure = λ _ sure. sure;
+      ended = λ e. absurd (changes e);
+      kept = λ e. absurd (changes e);
+      at_any_moment = λ sure.
+          stays_none (IsSetLeft engine.1.1 call) engine.0 (λ image told. left_itself engine.1.1 call (holds engine.0) image (keeps sure) told);
+      cause = record { done = λ _. refl; failed = λ e. absurd (no_fault e); never_falls = omega arith };
+    }
 
 module _ (side : Side) (c : IsConsistent side) (edit : Edit) (call : SetCall) (may : MayEdit (state_of side) NonVolatile edit) (is : set_step (state_of side) call ≡ (Changed, changed (state_of side) (edited edit (state_of side).variables))) where
   -- the variables that the set leaves in the non-volatile store

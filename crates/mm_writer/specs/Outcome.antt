@@ -1,15 +1,18 @@
 -- What a call of the writer's side answers, and what it leaves of the history and of the flash.
-use Rattle.std.specs.Prelude.{◌≡◌, ◌≢◌, ◌⊎◌, ℕ, ◌≤◌, true, false, List, [], ◌∷◌, ◌++◌, length, take, All}
+use Rattle.std.specs.Prelude.{◌≡◌, ◌≢◌, ◌⊎◌, ℕ, ◌≤◌, true, false, List, [], ◌∷◌, ◌++◌, length, take, All, Option, None, IfSome}
+use Rattle.flash_dev.specs.Moments.{Stays}
 use Rattle.outside.specs.Faults.{HasRisen}
 use Rattle.pending_range.specs.Ranges.{IsWider}
 use Rattle.var_trace.specs.StoreChange.{StoreChange}
 use Rattle.var_types.specs.declared.call.Call.{Call}
+use Rattle.var_types.specs.declared.call.Call.TheVariants.{Set as SetCalled}
 use Rattle.var_types.specs.declared.call.SetCall.{SetCall}
 use Rattle.var_types.specs.declared.reply.Reply.{Reply}
+use Rattle.var_types.specs.declared.reply.Reply.TheVariants.{Set as SetReplied}
 use Rattle.var_types.specs.declared.reply.SetReply.{SetReply}
-use Rattle.var_types.specs.declared.reply.SetReply.TheVariants.{Device}
+use Rattle.var_types.specs.declared.reply.SetReply.TheVariants.{Device, Ok as Changed}
 use Rattle.var_types.specs.declared.store.Store.TheVariants.{NonVolatile}
-use Rattle.var_types.specs.DeviceErrors.{IsReplyIn}
+use Rattle.var_types.specs.DeviceErrors.{IsNonVolatileChange, IsReplyIn}
 use Rattle.var_types.specs.History.{Entry}
 use Rattle.var_types.specs.Kept.{IsSound, content, kept}
 use Rattle.var_types.specs.Layout.{headers_size}
@@ -56,3 +59,16 @@ pub record HasReplyCause (before after : ℕ) (reply : SetReply) : Type 0 where
   pub done : reply ≢ Device → after ≡ before
   pub failed : reply ≡ Device → HasRisen before after
   pub never_falls : before ≤ after
+
+-- a set was answered on an engine: the reply, the history and the side are as of any call. But for a change and for a failed flash, the flash and the
+-- doubt are as they were; a change leaves no doubt that was not there, ends it where it is of a non-volatile variable, and without doubt the flash
+-- keeps the side's non-volatile variables. Where none is in doubt, a power loss at any moment leaves what `IsSetLeft` says (this project's own)
+pub record AnswersSet {F : Type 0} (moment : F → ℕ) (left_since : F → ℕ → List ℕ → Type 0) (holds : F → Option (List ℕ)) (fault_count : F → ℕ) (old new : F × (Option (List ℕ) × Side)) (processor index : ℕ) (call : SetCall) (reply : SetReply) : Type 0 where
+  pub answered : IsAnswered old.1.1 new.1.1 processor index (SetCalled call) (SetReplied reply)
+  pub untouched : reply ≢ Changed → reply ≢ Device → new.0 ≡ old.0
+  pub same_doubt : reply ≢ Changed → reply ≢ Device → new.1.0 ≡ old.1.0
+  pub sure : reply ≡ Changed → old.1.0 ≡ None → new.1.0 ≡ None
+  pub ended : reply ≡ Changed → IsNonVolatileChange (state_of old.1.1) call → new.1.0 ≡ None
+  pub kept : reply ≡ Changed → new.1.0 ≡ None → IfSome (holds new.0) (IsKeptBy new.1.1)
+  pub at_any_moment : old.1.0 ≡ None → Stays (IsSetLeft old.1.1 call) moment left_since holds old.0 new.0
+  pub cause : HasReplyCause (fault_count old.0) (fault_count new.0) reply

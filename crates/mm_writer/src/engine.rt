@@ -1,17 +1,11 @@
-ghost use Rattle.std.specs.Prelude.{◌≡◌, ◌≢◌, ◌<◌, ◌≤◌, ◌^◌, ◌++◌, drop, None, true, false, IfOk, IfSome, List, length};
-ghost use Rattle.flash_dev.specs.Moments.{Stays};
-ghost use Rattle.flash_dev.specs.Rules.{IsKept as IsImageKept, Leaves};
+ghost use Rattle.std.specs.Prelude.{◌≡◌, ◌<◌, ◌≤◌, ◌^◌, ◌++◌, drop, None, true, false, IfOk, IfSome, List, length};
 ghost use Rattle.mm_writer.specs.Edit.{MayEdit, MayWrite, edit_key, edited};
-ghost use Rattle.mm_writer.specs.Outcome.{HasReplyCause, IsAnswered, IsKeptBy, IsSetLeft};
+ghost use Rattle.mm_writer.specs.Outcome.{AnswersSet, IsKeptBy};
 ghost use Rattle.mm_writer.specs.Side.{IsConsistent, state_of};
 ghost use Rattle.mm_writer.specs.Stands.{IsTotalWithout, Stands};
 ghost use Rattle.policy_table.specs.PolicyState.{policies_of};
-ghost use Rattle.outside.specs.Faults.{HasRisen};
-ghost use Rattle.var_types.specs.declared.call.Call.TheVariants.{Set as SetCalled};
 ghost use Rattle.var_types.specs.declared.decision.Decision.TheVariants.{Remove as Removing, Write as Writing};
-ghost use Rattle.var_types.specs.declared.reply.Reply.TheVariants.{Set as SetReplied};
-ghost use Rattle.var_types.specs.declared.reply.SetReply.TheVariants.{Ok as Changed, Device as DeviceReplied};
-ghost use Rattle.var_types.specs.DeviceErrors.{IsNonVolatileChange};
+ghost use Rattle.var_types.specs.declared.reply.SetReply.TheVariants.{Ok as Changed};
 ghost use Rattle.var_types.specs.declared.store.Store.TheVariants.{NonVolatile, Volatile};
 ghost use Rattle.var_types.specs.Reading.{kept_bytes, set_key};
 ghost use Rattle.var_types.specs.Set.{changed, decision, set_step};
@@ -111,14 +105,7 @@ impl<F: Flash> Engine<F> {
             ≡ (Changed, changed (state_of self.old.1.1) (edited edit.now (state_of self.old.1.1).variables)) }
         requires more { (state_of self.old.1.1).made < (state_of self.old.1.1).limit }
         requires rest { IsTotalWithout rest (set_key call.now) (state_of self.old.1.1).variables }
-        ensures answered { IsAnswered self.old.1.1 self.new.1.1 caller.processor caller.index (SetCalled call.now) (SetReplied result) }
-        ensures untouched { result ≢ Changed → result ≢ DeviceReplied → self.new.0 ≡ self.old.0 }
-        ensures same_doubt { result ≢ Changed → result ≢ DeviceReplied → self.new.1.0 ≡ self.old.1.0 }
-        ensures sure { result ≡ Changed → self.old.1.0 ≡ None → self.new.1.0 ≡ None }
-        ensures ended { result ≡ Changed → IsNonVolatileChange (state_of self.old.1.1) call.now → self.new.1.0 ≡ None }
-        ensures kept { result ≡ Changed → self.new.1.0 ≡ None → IfSome (F.holds self.new.0) (IsKeptBy self.new.1.1) }
-        ensures at_any_moment { self.old.1.0 ≡ None → Stays (IsSetLeft self.old.1.1 call.now) F.moment F.left_since F.holds self.old.0 self.new.0 }
-        ensures cause { HasReplyCause (F.fault_count self.old.0) (F.fault_count self.new.0) result }
+        ensures { AnswersSet F.moment F.left_since F.holds F.fault_count self.old self.new caller.processor caller.index call.now result }
     {
         ranges_agree();
         let _view = self.view();
@@ -153,14 +140,7 @@ impl<F: Flash> Engine<F> {
             ≡ (Changed, changed (state_of self.old.1.1) (edited edit.now (state_of self.old.1.1).variables)) }
         requires more { (state_of self.old.1.1).made < (state_of self.old.1.1).limit }
         requires rest { IsTotalWithout rest (set_key call.now) (state_of self.old.1.1).variables }
-        ensures answered { IsAnswered self.old.1.1 self.new.1.1 caller.processor caller.index (SetCalled call.now) (SetReplied result) }
-        ensures untouched { result ≢ Changed → result ≢ DeviceReplied → self.new.0 ≡ self.old.0 }
-        ensures same_doubt { result ≢ Changed → result ≢ DeviceReplied → self.new.1.0 ≡ self.old.1.0 }
-        ensures sure { result ≡ Changed → self.old.1.0 ≡ None → self.new.1.0 ≡ None }
-        ensures ended { result ≡ Changed → IsNonVolatileChange (state_of self.old.1.1) call.now → self.new.1.0 ≡ None }
-        ensures kept { result ≡ Changed → self.new.1.0 ≡ None → IfSome (F.holds self.new.0) (IsKeptBy self.new.1.1) }
-        ensures at_any_moment { self.old.1.0 ≡ None → Stays (IsSetLeft self.old.1.1 call.now) F.moment F.left_since F.holds self.old.0 self.new.0 }
-        ensures cause { HasReplyCause (F.fault_count self.old.0) (F.fault_count self.new.0) result }
+        ensures { AnswersSet F.moment F.left_since F.holds F.fault_count self.old self.new caller.processor caller.index call.now result }
     {
         ranges_agree();
         let _view = self.view();
@@ -197,14 +177,7 @@ impl<F: Flash> Engine<F> {
             ≡ (Changed, changed (state_of self.old.1.1) (edited edit.now (state_of self.old.1.1).variables)) }
         requires more { (state_of self.old.1.1).made < (state_of self.old.1.1).limit }
         requires rest { IsTotalWithout rest (set_key call.now) (state_of self.old.1.1).variables }
-        ensures answered { IsAnswered self.old.1.1 self.new.1.1 caller.processor caller.index (SetCalled call.now) (SetReplied result) }
-        ensures untouched { result ≢ Changed → result ≢ DeviceReplied → self.new.0 ≡ self.old.0 }
-        ensures same_doubt { result ≢ Changed → result ≢ DeviceReplied → self.new.1.0 ≡ self.old.1.0 }
-        ensures sure { result ≡ Changed → self.old.1.0 ≡ None → self.new.1.0 ≡ None }
-        ensures ended { result ≡ Changed → IsNonVolatileChange (state_of self.old.1.1) call.now → self.new.1.0 ≡ None }
-        ensures kept { result ≡ Changed → self.new.1.0 ≡ None → IfSome (F.holds self.new.0) (IsKeptBy self.new.1.1) }
-        ensures at_any_moment { self.old.1.0 ≡ None → Stays (IsSetLeft self.old.1.1 call.now) F.moment F.left_since F.holds self.old.0 self.new.0 }
-        ensures cause { HasReplyCause (F.fault_count self.old.0) (F.fault_count self.new.0) result }
+        ensures { AnswersSet F.moment F.left_since F.holds F.fault_count self.old self.new caller.processor caller.index call.now result }
     {
         match store {
             Store::NonVolatile => self.edit_non_volatile(edit, caller, call, rest),
@@ -238,14 +211,7 @@ impl<F: Flash> Engine<F> {
     ) -> SetReply
         requires may { MayWrite (state_of self.old.1.1) call.now (record { attributes = attributes; bytes = bytes.now; stamp = stamp }) }
         requires rest { IsTotalWithout rest (set_key call.now) (state_of self.old.1.1).variables }
-        ensures answered { IsAnswered self.old.1.1 self.new.1.1 caller.processor caller.index (SetCalled call.now) (SetReplied result) }
-        ensures untouched { result ≢ Changed → result ≢ DeviceReplied → self.new.0 ≡ self.old.0 }
-        ensures same_doubt { result ≢ Changed → result ≢ DeviceReplied → self.new.1.0 ≡ self.old.1.0 }
-        ensures sure { result ≡ Changed → self.old.1.0 ≡ None → self.new.1.0 ≡ None }
-        ensures ended { result ≡ Changed → IsNonVolatileChange (state_of self.old.1.1) call.now → self.new.1.0 ≡ None }
-        ensures kept { result ≡ Changed → self.new.1.0 ≡ None → IfSome (F.holds self.new.0) (IsKeptBy self.new.1.1) }
-        ensures at_any_moment { self.old.1.0 ≡ None → Stays (IsSetLeft self.old.1.1 call.now) F.moment F.left_since F.holds self.old.0 self.new.0 }
-        ensures cause { HasReplyCause (F.fault_count self.old.0) (F.fault_count self.new.0) result }
+        ensures { AnswersSet F.moment F.left_since F.holds F.fault_count self.old self.new caller.processor caller.index call.now result }
     {
         let new = NewRecord {
             guid: call.guid,
@@ -269,14 +235,7 @@ impl<F: Flash> Engine<F> {
     ) -> SetReply
         requires write { Writing attributes stamp skip false ≡ decision (state_of self.old.1.1) call.now }
         requires rest { IsTotalWithout rest (set_key call.now) (state_of self.old.1.1).variables }
-        ensures answered { IsAnswered self.old.1.1 self.new.1.1 caller.processor caller.index (SetCalled call.now) (SetReplied result) }
-        ensures untouched { result ≢ Changed → result ≢ DeviceReplied → self.new.0 ≡ self.old.0 }
-        ensures same_doubt { result ≢ Changed → result ≢ DeviceReplied → self.new.1.0 ≡ self.old.1.0 }
-        ensures sure { result ≡ Changed → self.old.1.0 ≡ None → self.new.1.0 ≡ None }
-        ensures ended { result ≡ Changed → IsNonVolatileChange (state_of self.old.1.1) call.now → self.new.1.0 ≡ None }
-        ensures kept { result ≡ Changed → self.new.1.0 ≡ None → IfSome (F.holds self.new.0) (IsKeptBy self.new.1.1) }
-        ensures at_any_moment { self.old.1.0 ≡ None → Stays (IsSetLeft self.old.1.1 call.now) F.moment F.left_since F.holds self.old.0 self.new.0 }
-        ensures cause { HasReplyCause (F.fault_count self.old.0) (F.fault_count self.new.0) result }
+        ensures { AnswersSet F.moment F.left_since F.holds F.fault_count self.old self.new caller.processor caller.index call.now result }
     {
         decisions_decide();
         let payload = payload_of(call, skip);
@@ -295,14 +254,7 @@ impl<F: Flash> Engine<F> {
     ) -> SetReply
         requires append { Writing attributes stamp skip true ≡ decision (state_of self.old.1.1) call.now }
         requires rest { IsTotalWithout rest (set_key call.now) (state_of self.old.1.1).variables }
-        ensures answered { IsAnswered self.old.1.1 self.new.1.1 caller.processor caller.index (SetCalled call.now) (SetReplied result) }
-        ensures untouched { result ≢ Changed → result ≢ DeviceReplied → self.new.0 ≡ self.old.0 }
-        ensures same_doubt { result ≢ Changed → result ≢ DeviceReplied → self.new.1.0 ≡ self.old.1.0 }
-        ensures sure { result ≡ Changed → self.old.1.0 ≡ None → self.new.1.0 ≡ None }
-        ensures ended { result ≡ Changed → IsNonVolatileChange (state_of self.old.1.1) call.now → self.new.1.0 ≡ None }
-        ensures kept { result ≡ Changed → self.new.1.0 ≡ None → IfSome (F.holds self.new.0) (IsKeptBy self.new.1.1) }
-        ensures at_any_moment { self.old.1.0 ≡ None → Stays (IsSetLeft self.old.1.1 call.now) F.moment F.left_since F.holds self.old.0 self.new.0 }
-        ensures cause { HasReplyCause (F.fault_count self.old.0) (F.fault_count self.new.0) result }
+        ensures { AnswersSet F.moment F.left_since F.holds F.fault_count self.old self.new caller.processor caller.index call.now result }
     {
         decisions_decide();
         let payload = payload_of(call, skip);
@@ -316,14 +268,7 @@ impl<F: Flash> Engine<F> {
     fn remove(&mut self, store: Store, caller: Caller, call: &SetCall, rest: RoomTotals) -> SetReply
         requires remove { Removing store ≡ decision (state_of self.old.1.1) call.now }
         requires rest { IsTotalWithout rest (set_key call.now) (state_of self.old.1.1).variables }
-        ensures answered { IsAnswered self.old.1.1 self.new.1.1 caller.processor caller.index (SetCalled call.now) (SetReplied result) }
-        ensures untouched { result ≢ Changed → result ≢ DeviceReplied → self.new.0 ≡ self.old.0 }
-        ensures same_doubt { result ≢ Changed → result ≢ DeviceReplied → self.new.1.0 ≡ self.old.1.0 }
-        ensures sure { result ≡ Changed → self.old.1.0 ≡ None → self.new.1.0 ≡ None }
-        ensures ended { result ≡ Changed → IsNonVolatileChange (state_of self.old.1.1) call.now → self.new.1.0 ≡ None }
-        ensures kept { result ≡ Changed → self.new.1.0 ≡ None → IfSome (F.holds self.new.0) (IsKeptBy self.new.1.1) }
-        ensures at_any_moment { self.old.1.0 ≡ None → Stays (IsSetLeft self.old.1.1 call.now) F.moment F.left_since F.holds self.old.0 self.new.0 }
-        ensures cause { HasReplyCause (F.fault_count self.old.0) (F.fault_count self.new.0) result }
+        ensures { AnswersSet F.moment F.left_since F.holds F.fault_count self.old self.new caller.processor caller.index call.now result }
     {
         decisions_decide();
         let edit = Edit::Remove {
@@ -336,14 +281,7 @@ impl<F: Flash> Engine<F> {
     /// Answers SetVariable, as the one-thread service does after the history so far (UEFI 2.10, 8.2.3). A set that is to change a non-volatile
     /// variable ends a doubt first; all memory is taken before the first step of the flash.
     pub fn set(&mut self, processor: u8, index: u32, call: &SetCall) -> SetReply
-        ensures answered { IsAnswered self.old.1.1 self.new.1.1 processor index (SetCalled call.now) (SetReplied result) }
-        ensures untouched { result ≢ Changed → result ≢ DeviceReplied → self.new.0 ≡ self.old.0 }
-        ensures same_doubt { result ≢ Changed → result ≢ DeviceReplied → self.new.1.0 ≡ self.old.1.0 }
-        ensures sure { result ≡ Changed → self.old.1.0 ≡ None → self.new.1.0 ≡ None }
-        ensures ended { result ≡ Changed → IsNonVolatileChange (state_of self.old.1.1) call.now → self.new.1.0 ≡ None }
-        ensures kept { result ≡ Changed → self.new.1.0 ≡ None → IfSome (F.holds self.new.0) (IsKeptBy self.new.1.1) }
-        ensures at_any_moment { self.old.1.0 ≡ None → Stays (IsSetLeft self.old.1.1 call.now) F.moment F.left_since F.holds self.old.0 self.new.0 }
-        ensures cause { HasReplyCause (F.fault_count self.old.0) (F.fault_count self.new.0) result }
+        ensures { AnswersSet F.moment F.left_since F.holds F.fault_count self.old self.new processor index call.now result }
     {
         decisions_decide();
         let caller = Caller { processor, index };

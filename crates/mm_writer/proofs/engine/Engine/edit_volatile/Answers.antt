@@ -1,17 +1,16 @@
-use Rattle.std.proofs.Common.{◌≡◌, None, IfSome, sym, subst, refl}
+use Rattle.std.proofs.Common.{◌≡◌, None, IfSome, sym, subst, refl, arith}
+use Rattle.flash_dev.proofs.Moments.{stays_none}
 use Rattle.mm_writer.proofs.Able.{can_edit}
 use Rattle.mm_writer.proofs.Answered.{answered_ok, grown_volatile, kept_edited, variables_next}
 use Rattle.mm_writer.proofs.Ended.{not_non_volatile}
-use Rattle.mm_writer.proofs.KeptBy.{kept_volatile}
+use Rattle.mm_writer.proofs.KeptBy.{kept_volatile, left_itself}
 use Rattle.mm_writer.proofs.Sides.{means_now}
 use Rattle.mm_writer.specs.Edit.{MayEdit, edited}
 use Rattle.mm_writer.specs.Engine.{side_by}
-use Rattle.mm_writer.specs.Outcome.{IsAnswered, IsKeptBy}
+use Rattle.mm_writer.specs.Outcome.{AnswersSet, IsKeptBy, IsSetLeft}
 use Rattle.mm_writer.specs.Side.{Side, state_of}
 use Rattle.mm_writer.specs.Stands.{IsTotalWithout}
 use Rattle.set_rules.specs.RoomTotals.{IsTotalOf}
-use Rattle.var_types.specs.declared.call.Call.TheVariants.{Set as SetCalled}
-use Rattle.var_types.specs.declared.reply.Reply.TheVariants.{Set as SetReplied}
 use Rattle.var_types.specs.declared.reply.SetReply.TheVariants.{Ok as Changed}
 use Rattle.var_types.specs.declared.store.Store.TheVariants.{Volatile}
 use Rattle.var_types.specs.Set.{changed, set_step}
@@ -48,29 +47,15 @@ invariant_of-self g c =
     (grown_volatile e.opened.value.1.0 e.store.1.0 e.volatile c.change_volatile.new.volatile _ e.books c.change_volatile.new.books done.enters)
     c.agreement_grows_with_the_ranges.ensures.grows c.agreement_grows_with_the_ranges.ensures.same rooms
 
-pub returns-in-Ok-clause-answered : goal.returns-in-Ok-clause-answered
-returns-in-Ok-clause-answered g c =
+pub returns-in-Ok : goal.returns-in-Ok
+returns-in-Ok g c =
     let e = c.self.inside in
     let side : Side = side_by e.opened.value.1.0 e.store.1.0 e.volatile e.books in
-    let next : Side = side_by e.opened.value.1.0 e.store.1.0 c.change_volatile.new.volatile c.change_volatile.new.books in
+    let volatile = c.change_volatile.new.volatile in
+    let books = c.change_volatile.new.books in
+    let next : Side = side_by e.opened.value.1.0 e.store.1.0 volatile books in
     let edit = c.args.edit.now in
-    let call = c.args.call.now in
-    let may = subst (λ v. MayEdit (state_of v.1.1) Volatile edit) (sym c.self.view_is) c.requires.may in
-    let is =
-    subst (λ v. set_step (state_of v.1.1) call ≡ (Changed, changed (state_of v.1.1) (edited edit (state_of v.1.1).variables))) (sym c.self.view_is)
-    c.requires.step in
-    let done = c.in-Ok.ensures.done in
-    subst (λ v. IsAnswered v.1.1 next c.args.caller.processor c.args.caller.index (SetCalled call) (SetReplied Changed)) c.self.view_is
-    (answered_ok side next e.totals c.totals_after-totals.result e.policies c.self.invariant Volatile edit c.change_volatile.new.volatile
-    c.args.caller.processor c.args.caller.index call e.books c.change_volatile.new.books may is done.edited.map refl refl done.enters
-    (grown_volatile e.opened.value.1.0 e.store.1.0 e.volatile c.change_volatile.new.volatile _ e.books c.change_volatile.new.books done.enters))
-
-pub returns-in-Ok-clause-kept : goal.returns-in-Ok-clause-kept
-returns-in-Ok-clause-kept g c = λ _ sure.
-    let e = c.self.inside in
-    let side : Side = side_by e.opened.value.1.0 e.store.1.0 e.volatile e.books in
-    let next : Side = side_by e.opened.value.1.0 e.store.1.0 c.change_volatile.new.volatile c.change_volatile.new.books in
-    let edit = c.args.edit.now in
+    let caller = c.args.caller in
     let call = c.args.call.now in
     let may = subst (λ v. MayEdit (state_of v.1.1) Volatile edit) (sym c.self.view_is) c.requires.may in
     let is =
@@ -78,14 +63,24 @@ returns-in-Ok-clause-kept g c = λ _ sure.
     c.requires.step in
     let keeps = subst (λ v. v.1.0 ≡ None → IfSome (g.F.Flash.holds v.0) (IsKeptBy v.1.1)) (sym c.self.view_is) c.view-view.ensures.kept in
     let done = c.in-Ok.ensures.done in
-    kept_volatile side next edit c.self.invariant.consistent may
-    (variables_next side next e.totals c.totals_after-totals.result e.policies c.self.invariant Volatile edit c.change_volatile.new.volatile
-    c.args.caller.processor c.args.caller.index call e.books c.change_volatile.new.books may is done.edited.map refl refl done.enters
-    (grown_volatile e.opened.value.1.0 e.store.1.0 e.volatile c.change_volatile.new.volatile _ e.books c.change_volatile.new.books done.enters))
-    (g.F.Flash.holds e.store.0) (keeps sure)
-
-pub returns-in-Ok-clause-ended : goal.returns-in-Ok-clause-ended
-returns-in-Ok-clause-ended g c = λ _ change.
-    let edit = c.args.edit.now in
-    let state = state_of c.args.self.now.1.1 in
-    absurd (not_non_volatile state c.view-view.ensures.stands.ordered c.args.call.now edit c.requires.may c.requires.key c.requires.step change)
+    let grown = grown_volatile e.opened.value.1.0 e.store.1.0 e.volatile volatile _ e.books books done.enters in
+    let variables =
+    variables_next side next e.totals c.totals_after-totals.result e.policies c.self.invariant Volatile edit volatile caller.processor caller.index call
+    e.books books may is done.edited.map refl refl done.enters grown in
+    subst
+    (λ v. AnswersSet g.F.Flash.moment g.F.Flash.left_since g.F.Flash.holds g.F.Flash.fault_count v (e.store.0, (e.store.1.1, next)) caller.processor caller.index call Changed)
+    c.self.view_is
+    (record {
+      answered =
+          answered_ok side next e.totals c.totals_after-totals.result e.policies c.self.invariant Volatile edit volatile caller.processor caller.index call
+          e.books books may is done.edited.map refl refl done.enters grown;
+      untouched = λ n. absurd (n refl);
+      same_doubt = λ n. absurd (n refl);
+      sure = λ _ sure. sure;
+      ended = λ _ change.
+          absurd (not_non_volatile (state_of side) c.self.invariant.consistent.sound.ordered call edit may c.requires.key is change);
+      kept = λ _ sure. kept_volatile side next edit c.self.invariant.consistent may variables (g.F.Flash.holds e.store.0) (keeps sure);
+      at_any_moment = λ sure.
+          stays_none (IsSetLeft side call) e.store.0 (λ image told. left_itself side call (g.F.Flash.holds e.store.0) image (keeps sure) told);
+      cause = record { done = λ _. refl; failed = λ e. cc; never_falls = omega arith };
+    })

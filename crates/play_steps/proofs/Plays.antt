@@ -15,7 +15,7 @@ use Rattle.var_types.specs.State.{State, start}
 use Rattle.var_types.specs.Stores.{part}
 use Rattle.svc_core.proofs.Histories.{history_more, length-history, length-more}
 use Rattle.svc_core.specs.Events.{Powered}
-use Rattle.svc_core.specs.Power.{Keeps, KeepsBy, planned}
+use Rattle.svc_core.specs.Power.{IsUnanswered, Keeps, KeepsBy, planned}
 use Rattle.svc_core.specs.Scene.{Scene, first_world, powered}
 use Rattle.svc_core.specs.World.{World}
 use Rattle.svc_core.specs.Writer.{Opening, kept_after}
@@ -31,9 +31,9 @@ variables_kept image = refl
 after_all : (opening : Opening) (log : List Change) (n : ℕ) → n ≡ length log → kept_after opening log n ≡ variables_after opening.start (history_in log)
 after_all opening log n e = ap (λ (k : ℕ). part NonVolatile (after opening.start (history_in log) k).variables) (e ∙ sym (length-history log))
 
--- what is kept is the history's, or with one change more
-keeps_history : (w : World) (left : List ℕ) → Keeps w left → KeepsHistory w.opening.start (history_in w.writer.log) (content left)
-keeps_history w left keeps = by (planned w) keeps.kept
+-- what is kept is the history's, or with the one change more of a call without an answer
+keeps_history : (w : World) (left : List ℕ) → Keeps w left → KeepsHistory w w.opening.start (history_in w.writer.log) (content left)
+keeps_history w left keeps = by (planned w) keeps.kept keeps.unanswered
   where
     log : List Change
     log = w.writer.log
@@ -41,13 +41,15 @@ keeps_history w left keeps = by (planned w) keeps.kept
     before : kept left ≡ kept_after w.opening log (length log) → variables_in (content left) ≡ variables_after w.opening.start (history_in log)
     before is = variables_kept left ∙ is ∙ after_all w.opening log (length log) refl
 
-    by : (change : Option Change) → KeepsBy change w left → KeepsHistory w.opening.start (history_in log) (content left)
-    by None is = inl (before is)
-    by (Some change) either =
+    by : (change : Option Change) → KeepsBy change w left → IfSome change (IsUnanswered w)
+        → KeepsHistory w w.opening.start (history_in log) (content left)
+    by None is none = inl (before is)
+    by (Some change) either unanswered =
         ⊎_elim (λ (is : kept left ≡ kept_after w.opening log (length log)). inl (before is))
         (λ (is : kept left ≡ kept_after w.opening (log ++ change ∷ []) (length log + 1)).
         inr (
-          change.entry,
+          change,
+          unanswered,
           variables_kept left ∙ is
               ∙ after_all w.opening (log ++ change ∷ []) (length log + 1) (sym (length-more log change))
               ∙ ap (variables_after w.opening.start) (history_more log change),
@@ -75,7 +77,7 @@ module _ (calls : List (List Call)) (schedule : ScheduleParts) (first behind : S
 
   -- what is left keeps the session's variables
   left_keeps : (power : Option PowerLoss) → IfSome power (λ loss. behind.lost ≡ true) → (behind.lost ≡ true → Keeps behind.world behind.world.writer.flash)
-      → IfSome (content_left power behind.world.writer.flash) (KeepsHistory behind.world.opening.start (history_in behind.world.writer.log))
+      → IfSome (content_left power behind.world.writer.flash) (KeepsHistory behind.world behind.world.opening.start (history_in behind.world.writer.log))
   left_keeps None gone keeps = tt
   left_keeps (Some loss) gone keeps = keeps_history behind.world behind.world.writer.flash (keeps gone)
 
@@ -99,8 +101,8 @@ module _ (calls : List (List Call)) (schedule : ScheduleParts) (first behind : S
         (subst (λ (x : List Change). IsLegalSoFar behind.world.opening.start (history_in x) (answers_of session)) (sym log)
         (subst (IsLegalSoFar behind.world.opening.start (history_in behind.world.writer.log)) (sym answers) legal));
     keeps =
-        subst (λ (s : State). IfSome left (KeepsHistory s (history_in session.entries.log))) started
-        (subst (λ (x : List Change). IfSome left (KeepsHistory behind.world.opening.start (history_in x))) (sym log)
-        (subst (λ (o : Option (List ℕ)). IfSome o (KeepsHistory behind.world.opening.start (history_in behind.world.writer.log))) (sym left_is)
+        subst (λ (s : State). IfSome left (KeepsHistory behind.world s (history_in session.entries.log))) started
+        (subst (λ (x : List Change). IfSome left (KeepsHistory behind.world behind.world.opening.start (history_in x))) (sym log)
+        (subst (λ (o : Option (List ℕ)). IfSome o (KeepsHistory behind.world behind.world.opening.start (history_in behind.world.writer.log))) (sym left_is)
         (left_keeps schedule.power lost keeps)));
   }

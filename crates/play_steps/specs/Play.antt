@@ -9,9 +9,11 @@ use Rattle.script_text.specs.declared.turn.Turn.TheVariants as turn
 use Rattle.script_text.specs.Schedule.{PlayParts, ScheduleParts}
 use Rattle.svc_core.specs.declared.event.Event.TheVariants.{Step, Power}
 use Rattle.svc_core.specs.Events.{Happens, IsStill, Powered}
+use Rattle.svc_core.specs.Power.{IsUnanswered}
 use Rattle.svc_core.specs.Scene.{IsOpening, Moves, Scene, first_world}
-use Rattle.svc_core.specs.World.{Processor}
+use Rattle.svc_core.specs.World.{Processor, World}
 use Rattle.svc_core.specs.Writer.{Opening}
+use Rattle.var_trace.specs.declared.change.Change.{Change}
 use Rattle.var_trace.specs.LegalSession.{IsLegalSoFar}
 use Rattle.var_trace.specs.Session.{SessionParts, answers_of}
 use Rattle.var_trace.specs.StoresAfter.{history_in}
@@ -99,11 +101,11 @@ variables_in bytes = region_map (record { form = Authenticated; bytes = bytes; f
 abbrev pub variables_after : State → List Entry → List (Key × Variable)
 variables_after first history = part NonVolatile (after first history (length history)).variables
 
--- what a loss of power leaves is the history's non-volatile variables, or those with one change more
-abbrev pub KeepsHistory : State → List Entry → List ℕ → Type 0
-KeepsHistory first history bytes =
+-- what a loss of power leaves in a world is a history's non-volatile variables, or those with one change more, of a call that has no answer there
+abbrev pub KeepsHistory : World → State → List Entry → List ℕ → Type 0
+KeepsHistory w first history bytes =
     (variables_in bytes ≡ variables_after first history)
-    ⊎ ((planned : Entry) × (variables_in bytes ≡ variables_after first (history ++ planned ∷ [])))
+    ⊎ ((change : Change) × IsUnanswered w change × (variables_in bytes ≡ variables_after first (history ++ change.entry ∷ [])))
 
 -- a world begins with these calls on a blank image (this project's own)
 pub record IsBegun (calls : List (List Call)) (s : Scene) : Type 0 where
@@ -113,7 +115,8 @@ pub record IsBegun (calls : List (List Call)) (s : Scene) : Type 0 where
   pub blank : s.world.opening.start ≡ start [] (play_limit calls)
 
 -- a script with a schedule was played on a blank image: the session is that of the world after the schedule's events, which begins with no variable;
--- it is legal, and what a loss of power leaves keeps its non-volatile variables, or those with one change more (this project's own)
+-- it is legal, and what a loss of power leaves keeps its non-volatile variables, or those with one change more, of a call without an answer (this
+-- project's own)
 pub record IsPlayed (play : PlayParts) (session : SessionParts) (kept : Option (List ℕ)) : Type 0 where
   pub opening : Opening
   pub image : List ℕ
@@ -125,4 +128,4 @@ pub record IsPlayed (play : PlayParts) (session : SessionParts) (kept : Option (
   pub answers : answers_of session ≡ map (λ a. a.answered) behind.world.processors
   pub left : kept ≡ content_left play.schedule.power behind.world.writer.flash
   pub legal : IsLegalSoFar (start [] (play_limit play.calls)) (history_in session.entries.log) (answers_of session)
-  pub keeps : IfSome kept (KeepsHistory (start [] (play_limit play.calls)) (history_in session.entries.log))
+  pub keeps : IfSome kept (KeepsHistory behind.world (start [] (play_limit play.calls)) (history_in session.entries.log))

@@ -1,8 +1,9 @@
 -- What a loss of power leaves.
-use Rattle.std.specs.Prelude.{◌≡◌, ◌⊎◌, ℕ, ◌+◌, ◌-◌, ◌==◌, ◌≤◌, List, [], ◌∷◌, ◌++◌, length, slice_get, All, if◌then◌else◌, Option, Some, None}
+use Rattle.std.specs.Prelude.{◌≡◌, ◌⊎◌, ℕ, ◌+◌, ◌-◌, ◌==◌, ◌≤◌, List, [], ◌∷◌, ◌++◌, length, slice_get, All, if◌then◌else◌, Option, Some, None, IfSome}
 use Rattle.flash_dev.specs.declared.fault_plan.Torn.{Torn}
 use Rattle.var_trace.specs.declared.change.Change.{Change}
 use Rattle.var_types.specs.declared.answered.Answered.{Answered}
+use Rattle.var_types.specs.declared.call.Call.{Call}
 use Rattle.var_types.specs.Kept.{kept}
 use Rattle.var_types.specs.Session.{place_behind}
 use Rattle.svc_core.specs.declared.flash_step.FlashStep.{FlashStep}
@@ -60,8 +61,18 @@ KeepsBy (Some change) w left =
     (kept left ≡ kept_after w.opening w.writer.log (length w.writer.log))
     ⊎ (kept left ≡ kept_after w.opening (w.writer.log ++ change ∷ []) (length w.writer.log + 1))
 
--- what is true of an image that a loss of power leaves: it keeps the history's non-volatile variables, or with the planned change; and the
--- history has every change that was answered, and every one below a place that was given to a caller (this project's own)
+-- a change is that of a processor's first call without an answer, and the next one of the history (this project's own)
+pub record IsUnanswered (w : World) (change : Change) : Type 0 where
+  pub caller : Processor
+  pub there : slice_get w.processors change.entry.processor ≡ Some caller
+  pub later : List Call
+  pub calls : caller.calls ≡ change.entry.call ∷ later
+  pub index : change.entry.index ≡ length caller.answered
+  pub number : change.entry.number ≡ length w.writer.log
+
+-- what is true of an image that a loss of power leaves: it keeps the history's non-volatile variables, or with the planned change, which is a call's
+-- that has no answer; and the history has every change that was answered, and every one below a place that was given to a caller (this project's own)
 pub record Keeps (w : World) (left : List ℕ) : Type 0 where
   pub kept : KeepsBy (planned w) w left
+  pub unanswered : IfSome (planned w) (IsUnanswered w)
   pub seen : (p : ℕ) (a : Processor) → slice_get w.processors p ≡ Some a → All (λ (x : Answered). place_behind x ≤ length w.writer.log) a.answered

@@ -3,7 +3,7 @@ use crate::kept_check::kept_in;
 use crate::test_worlds::expect;
 use crate::tests::expect_overlap;
 use crate::{Played, play};
-use script_text::{LineReason, PlayFault, ScriptFault};
+use script_text::{LineReason, PlayFault};
 use std::alloc::Global;
 use std::process::Abort;
 use std::test::Fail;
@@ -139,7 +139,7 @@ fn turns_end_with_a_call_or_go_on_over_it(rt: HostRuntime) -> Result<(), Fail> {
 #[test]
 fn scripts_and_schedules_are_refused(rt: HostRuntime) -> Result<(), Fail> {
     let alloc = rt.alloc();
-    let of_line = |number, reason| PlayFault::Script(ScriptFault::Line { number, reason });
+    let of_line = |number, reason| PlayFault::Line { number, reason };
     assert!(rt; refusal(&rt, alloc, SET, "0 1\n1 end\n")? == PlayFault::Actor { line: 4 });
     assert!(rt; refusal(&rt, alloc, SET, "0 fly\n1 end\n")? == of_line(3, LineReason::Schedule));
     assert!(rt; refusal(&rt, alloc, "0 fly\n", "1 end\n")? == of_line(1, LineReason::Verb));
@@ -147,11 +147,11 @@ fn scripts_and_schedules_are_refused(rt: HostRuntime) -> Result<(), Fail> {
     for _ in 0..20_001u32 {
         calls.push_str("0 lock\n")?;
     }
-    let many = ScriptFault::TooManyCalls {
+    let many = PlayFault::TooManyCalls {
         processor: 0,
         limit: 20_000,
     };
-    assert!(rt; refusal(&rt, alloc, calls.as_str(), "")? == PlayFault::Script(many));
+    assert!(rt; refusal(&rt, alloc, calls.as_str(), "")? == many);
     Ok(())
 }
 

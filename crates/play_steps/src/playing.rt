@@ -17,7 +17,7 @@ use flash_dev::{Device, VOLUME_BYTES};
 use ftw_mount::read_kept;
 use image_make::{SureFlash, blank_flash};
 use nv_store::LoadWhy;
-use script_text::{PlayFault, PowerLoss, Schedule, ScriptFault, read_play};
+use script_text::{PlayFault, PowerLoss, Schedule, read_play};
 use std::alloc::Global;
 use svc_core::World;
 use var_types::{Bytes, Call, OutOfMemory};
@@ -117,6 +117,6 @@ pub fn play(alloc: Global, bytes: &[u8]) -> Result<Played, PlayFault>
     let play = read_play(alloc, bytes)?;
     match play_calls(alloc, play.script.into_processors(), &play.schedule) {
         Ok(played) => Ok(played),
-        Err(OutOfMemory) => Err(PlayFault::Script(ScriptFault::OutOfMemory)),
+        Err(OutOfMemory) => Err(PlayFault::OutOfMemory),
     }
 }

@@ -5,12 +5,13 @@ use Rattle.std.specs.Str.Lines.{lines}
 use Rattle.var_types.specs.declared.call.Call.{Call}
 use Rattle.script_text.specs.declared.calls_end.CallsEnd.TheVariants as until
 use Rattle.script_text.specs.declared.play_fault.PlayFault.{PlayFault}
-use Rattle.script_text.specs.declared.play_fault.PlayFault.TheVariants.{Actor, Script}
+use Rattle.script_text.specs.declared.play_fault.PlayFault.TheVariants as play
 use Rattle.script_text.specs.declared.script_fault.ScriptFault.{ScriptFault}
 use Rattle.script_text.specs.declared.script_fault.ScriptFault.TheVariants as fault
 use Rattle.script_text.specs.CallLines.{calls_until, lines_before, lines_behind}
 use Rattle.script_text.specs.Gives.{IsRefusal}
 use Rattle.script_text.specs.GivesPlay.{GivesPlay, IsPlayRefusal}
+use Rattle.script_text.specs.PlayFaults.{as_play_fault}
 use Rattle.script_text.specs.Schedule.{PlayParts, ScheduleParts, call_lines, of_script, play_of, schedule_from, schedule_lines}
 use Rattle.script_text.specs.Script.{calls_from, most_script_bytes}
 use Rattle.script_text.specs.Words.{◌>>=◌}
@@ -31,7 +32,7 @@ unfolding play_of calls_until
 play_of-calls text = rw (lines_before-schedule (lines text)) (by (ltb most_script_bytes (length text)) (calls_from 1 ([] ∷ []) (call_lines (lines text))))
   where
     by : (long : Bool) (read : Result (List (List Call)) ScriptFault)
-        → (if long then Err (Script (fault.TooLong most_script_bytes)) else (of_script read >>= λ calls. with_schedule calls (schedule_behind text (length calls))))
+        → (if long then Err (play.TooLong most_script_bytes) else (of_script read >>= λ calls. with_schedule calls (schedule_behind text (length calls))))
         ≡ (of_script (if long then Err (fault.TooLong most_script_bytes) else read) >>= λ calls. with_schedule calls (schedule_behind text (length calls)))
     by true read = refl
     by false read = refl
@@ -44,17 +45,17 @@ play_of-schedule text calls read =
     ∙ ap (λ (r : Result (List (List Call)) ScriptFault). of_script r >>= λ calls. with_schedule calls (schedule_behind text (length calls))) read
 
 -- a refusal of the calls
-pub refused_calls : (result : Result PlayParts PlayFault) (e : ScriptFault) (text : List ℕ) → IsErrAnd result (λ f. f ≡ Script e)
+pub refused_calls : (result : Result PlayParts PlayFault) (e : ScriptFault) (text : List ℕ) → IsErrAnd result (λ f. f ≡ as_play_fault e)
     → IsRefusal e (calls_until until.Schedule text) → GivesPlay result (play_of text)
 refused_calls (Ok play) e text is why = absurd is
 refused_calls (Err f) e text is why = subst (λ (f : PlayFault). IsPlayRefusal f (play_of text)) (sym is) (by e why)
   where
-    refused : (e : ScriptFault) → calls_until until.Schedule text ≡ Err e → play_of text ≡ Err (Script e)
+    refused : (e : ScriptFault) → calls_until until.Schedule text ≡ Err e → play_of text ≡ Err (as_play_fault e)
     refused e h =
         play_of-calls text
         ∙ ap (λ (r : Result (List (List Call)) ScriptFault). of_script r >>= λ calls. with_schedule calls (schedule_behind text (length calls))) h
 
-    by : (e : ScriptFault) → IsRefusal e (calls_until until.Schedule text) → IsPlayRefusal (Script e) (play_of text)
+    by : (e : ScriptFault) → IsRefusal e (calls_until until.Schedule text) → IsPlayRefusal (as_play_fault e) (play_of text)
     by fault.OutOfMemory why = tt
     by (fault.Line number reason) why = refused (fault.Line number reason) why
     by (fault.TooLong bytes) why = refused (fault.TooLong bytes) why
@@ -83,8 +84,8 @@ module _ (text behind : List ℕ) (calls : List (List Call)) (number processors 
       refused e h = play_of-schedule text calls read ∙ ap (with_schedule calls) (sym schedule_same ∙ h)
 
       by : (e : PlayFault) → IsPlayRefusal e (schedule_from number processors (lines behind)) → IsPlayRefusal e (play_of text)
-      by (Actor line) why = refused (Actor line) why
-      by (Script fault.OutOfMemory) why = tt
-      by (Script (fault.Line number reason)) why = refused (Script (fault.Line number reason)) why
-      by (Script (fault.TooLong bytes)) why = refused (Script (fault.TooLong bytes)) why
-      by (Script (fault.TooManyCalls processor limit)) why = refused (Script (fault.TooManyCalls processor limit)) why
+      by (play.Actor line) why = refused (play.Actor line) why
+      by play.OutOfMemory why = tt
+      by (play.Line number reason) why = refused (play.Line number reason) why
+      by (play.TooLong bytes) why = refused (play.TooLong bytes) why
+      by (play.TooManyCalls processor limit) why = refused (play.TooManyCalls processor limit) why

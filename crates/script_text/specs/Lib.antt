@@ -12,6 +12,7 @@ pub mod ReadBack
 pub mod FirstLine
 pub mod Schedule
 pub mod GivesPlay
+pub mod PlayFaults
 pub mod CallLines
 pub mod TurnRead
 pub mod Reached

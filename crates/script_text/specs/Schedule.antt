@@ -6,17 +6,17 @@ use Rattle.var_types.specs.declared.call.Call.{Call}
 use Rattle.script_text.specs.declared.line_reason.LineReason.{LineReason}
 use Rattle.script_text.specs.declared.line_reason.LineReason.TheVariants as reason
 use Rattle.script_text.specs.declared.play_fault.PlayFault.{PlayFault}
-use Rattle.script_text.specs.declared.play_fault.PlayFault.TheVariants.{Script, Actor}
+use Rattle.script_text.specs.declared.play_fault.PlayFault.TheVariants.{Line, TooLong, Actor}
 use Rattle.script_text.specs.declared.power_loss.PowerLoss.{PowerLoss}
 use Rattle.script_text.specs.declared.power_loss.PowerLoss.TheVariants as loss
 use Rattle.script_text.specs.declared.schedule_line.ScheduleLine.{ScheduleLine}
 use Rattle.script_text.specs.declared.schedule_line.ScheduleLine.TheVariants as line
 use Rattle.script_text.specs.declared.script_fault.ScriptFault.{ScriptFault}
-use Rattle.script_text.specs.declared.script_fault.ScriptFault.TheVariants.{Line, TooLong}
 use Rattle.script_text.specs.declared.turn.Turn.{Turn}
 use Rattle.script_text.specs.declared.turn.Turn.TheVariants as turn
 use Rattle.script_text.specs.Lines.{is_comment, is_text, words_of}
 use Rattle.script_text.specs.Numbers.{number_of}
+use Rattle.script_text.specs.PlayFaults.{as_play_fault}
 use Rattle.script_text.specs.Script.{calls_from, most_script_bytes}
 use Rattle.script_text.specs.Words.{◌>>=◌, is_word}
 
@@ -84,13 +84,13 @@ with_turn number processors processor turn later =
 
 -- what a line of this number says, before the later lines and what they come to. Behind a loss of power each line is passed over (this project's own)
 abbrev pub with_line : ℕ → ℕ → List (List ℕ) → Result ScheduleParts PlayFault → Result (Option ScheduleLine) LineReason → Result ScheduleParts PlayFault
-with_line number processors rest later (Err e) = Err (Script (Line number e))
+with_line number processors rest later (Err e) = Err (Line number e)
 with_line number processors rest later (Ok None) = later
 with_line number processors rest later (Ok (Some (line.Steps processor count))) =
     with_turn number processors processor (turn.Steps processor count) later
 with_line number processors rest later (Ok (Some (line.End processor))) = with_turn number processors processor (turn.End processor) later
 with_line number processors rest later (Ok (Some (line.Power loss))) =
-    if list_all is_passed rest then Ok (record { turns = []; power = Some loss }) else Err (Script (Line number reason.Schedule))
+    if list_all is_passed rest then Ok (record { turns = []; power = Some loss }) else Err (Line number reason.Schedule)
 
 -- the schedule of lines that are numbered from here on, for so many processors, or the first refusal (this project's own)
 unfoldable pub schedule_from : ℕ → ℕ → List (List ℕ) → Result ScheduleParts PlayFault
@@ -118,13 +118,13 @@ schedule_lines (text ∷ rest) = if begins_schedule text then rest else schedule
 -- what a script finds, as a refusal of a script with a schedule
 abbrev pub of_script : {A : Type 0} → Result A ScriptFault → Result A PlayFault
 of_script (Ok x) = Ok x
-of_script (Err e) = Err (Script e)
+of_script (Err e) = Err (as_play_fault e)
 
 -- the calls of a text by processor, with the schedule of their steps, or its first refusal: too many bytes; then that of the lines before the schedule,
 -- as of a script; then, line by line, that of the schedule (this project's own)
 unfoldable pub play_of : List ℕ → Result PlayParts PlayFault
 play_of text =
-    if nat_lt most_script_bytes (length text) then Err (Script (TooLong most_script_bytes))
+    if nat_lt most_script_bytes (length text) then Err (TooLong most_script_bytes)
     else of_script (calls_from 1 ([] ∷ []) (call_lines (lines text)))
     >>= λ calls. schedule_from (length (call_lines (lines text)) + 2) (length calls) (schedule_lines (lines text))
     >>= λ schedule. Ok (record { calls = calls; schedule = schedule })

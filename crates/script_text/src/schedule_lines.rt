@@ -1,8 +1,7 @@
 ghost use Rattle.std.specs.Prelude.{◌≡◌, ◌+◌, ◌≤◌, ◌<◌, true, false, length, Ok, Some, IfOk, IfErr};
 ghost use Rattle.std.specs.List.{list_all};
 ghost use Rattle.std.specs.Str.Lines.{lines};
-ghost use Rattle.script_text.specs.declared.play_fault.PlayFault.TheVariants.{Actor, Script};
-ghost use Rattle.script_text.specs.declared.script_fault.ScriptFault.TheVariants.{Line};
+ghost use Rattle.script_text.specs.declared.play_fault.PlayFault.TheVariants.{Actor, Line};
 ghost use Rattle.script_text.specs.GivesPlay.{GivesPlay};
 ghost use Rattle.script_text.specs.Lines.{is_comment, is_text};
 ghost use Rattle.script_text.specs.Schedule.{is_passed, schedule_from, schedule_line};
@@ -11,15 +10,8 @@ ghost use Rattle.script_text.specs.TurnRead.{IsLineRefused, IsTurnRead};
 
 use crate::lines::{first_line, text_line};
 use crate::schedule_words::{is_passed, schedule_line};
-use crate::{LineReason, PlayFault, PowerLoss, Schedule, ScheduleLine, ScriptFault, Turn};
+use crate::{LineReason, PlayFault, PowerLoss, Schedule, ScheduleLine, Turn};
 use std::alloc::Global;
-
-// A line of the schedule is bad.
-fn bad_line(number: u32, reason: LineReason) -> PlayFault
-    ensures { result ≡ Script (Line number reason) }
-{
-    PlayFault::Script(ScriptFault::Line { number, reason })
-}
 
 // The processor of a line's turn, where there is such a processor.
 fn actor(number: u32, processors: usize, processor: u32) -> Result<u8, PlayFault>
@@ -74,7 +66,7 @@ fn read_turn(
     match schedule_line(line) {
         Ok(None) => Ok(None),
         Ok(Some(said)) => add_turn(number, processors, said, turns),
-        Err(reason) => Err(bad_line(number, reason)),
+        Err(reason) => Err(PlayFault::Line { number, reason }),
     }
 }
 
@@ -110,14 +102,16 @@ pub fn read_schedule(
     let mut number = first;
     'lines: while !rest.is_empty() {
         let Some((line, behind)) = text_line(rest) else {
-            return Err(bad_line(number, LineReason::Schedule));
+            let reason = LineReason::Schedule;
+            return Err(PlayFault::Line { number, reason });
         };
         if let Some(loss) = read_turn(number, processors, line, &mut turns)? {
             if all_passed(behind) {
                 let power = Some(loss);
                 return Ok(Schedule { turns, power });
             }
-            return Err(bad_line(number, LineReason::Schedule));
+            let reason = LineReason::Schedule;
+            return Err(PlayFault::Line { number, reason });
         }
         rest = behind;
         number += 1;

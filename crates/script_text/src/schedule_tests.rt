@@ -113,7 +113,7 @@ fn finds_where_a_schedule_begins(rt: HostRuntime) -> Result<(), Fail> {
 }
 
 fn bad_line(number: u32, reason: LineReason) -> PlayFault {
-    PlayFault::Script(ScriptFault::Line { number, reason })
+    PlayFault::Line { number, reason }
 }
 
 // Lines of no form.
@@ -251,7 +251,7 @@ fn keeps_the_limit_of_a_schedule(rt: HostRuntime) -> Result<(), Fail> {
     let Schedule { turns, .. } = schedule;
     assert_eq!(rt; turns.len(), 262_142);
     text.push(b'\n')?;
-    let fault = PlayFault::Script(ScriptFault::TooLong { bytes: 1_048_576 });
+    let fault = PlayFault::TooLong { bytes: 1_048_576 };
     assert_eq!(rt; read_play(rt.alloc(), &text).err(), Some(fault));
     Ok(())
 }

@@ -298,7 +298,10 @@ fn keeps_the_limit_of_each_processor(rt: HostRuntime) -> Result<(), Fail> {
         limit: 20_000,
     };
     assert_eq!(rt; read_script(rt.alloc(), &text).err(), Some(fault));
-    let fault = PlayFault::Script(fault);
+    let fault = PlayFault::TooManyCalls {
+        processor: 5,
+        limit: 20_000,
+    };
     assert_eq!(rt; read_play(rt.alloc(), &text).err(), Some(fault));
     Ok(())
 }

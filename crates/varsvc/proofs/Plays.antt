@@ -12,7 +12,6 @@ use Rattle.report_text.specs.Fitting.{IsFitting}
 use Rattle.report_text.specs.Values.{AnswerHasValues, HaveValues}
 use Rattle.script_text.specs.declared.play_fault.PlayFault.{PlayFault}
 use Rattle.script_text.specs.declared.play_fault.PlayFault.TheVariants as play
-use Rattle.script_text.specs.declared.script_fault.ScriptFault.TheVariants.{TooLong}
 use Rattle.script_text.specs.Schedule.{PlayParts, play_of}
 use Rattle.script_text.specs.Script.{most_script_bytes}
 use Rattle.var_trace.specs.Session.{SessionParts, answers_of}
@@ -43,7 +42,7 @@ chosen : {A : Type 0} (b : Bool) (x y : A) → b ≡ true → (if b then x else 
 chosen b x y is = ap (λ c. if c then x else y) is
 
 -- a text that is too long is refused by its length alone
-play_of-long : (text : List ℕ) → most_script_bytes < length text → play_of text ≡ Err (play.Script (TooLong most_script_bytes))
+play_of-long : (text : List ℕ) → most_script_bytes < length text → play_of text ≡ Err (play.TooLong most_script_bytes)
 unfolding play_of
 play_of-long text h = chosen _ _ _ (lt-ltb most_script_bytes (length text) h)
 

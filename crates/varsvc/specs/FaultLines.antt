@@ -73,5 +73,8 @@ script_line script.OutOfMemory = memory_line
 
 -- the line for a refused script with a schedule (this project's own)
 unfoldable pub play_line : PlayFault → List ℕ
-play_line (play.Script fault) = script_line fault
+play_line (play.Line number reason) = script_line (script.Line number reason)
+play_line (play.TooLong bytes) = script_line (script.TooLong bytes)
+play_line (play.TooManyCalls processor limit) = script_line (script.TooManyCalls processor limit)
+play_line play.OutOfMemory = script_line script.OutOfMemory
 play_line (play.Actor line) = line_text (word_text word.Script ∷ word_text word.Line ∷ decimal line ∷ word_text word.Actor ∷ [])

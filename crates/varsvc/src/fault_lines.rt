@@ -142,7 +142,14 @@ pub fn write_play_line<P: Put>(fault: PlayFault, out: &mut P)
     ensures { P.Puts out.old out.new (play_line fault) }
 {
     match fault {
-        PlayFault::Script(fault) => write_script_line(fault, out),
+        PlayFault::Line { number, reason } => {
+            write_script_line(ScriptFault::Line { number, reason }, out)
+        }
+        PlayFault::TooLong { bytes } => write_script_line(ScriptFault::TooLong { bytes }, out),
+        PlayFault::TooManyCalls { processor, limit } => {
+            write_script_line(ScriptFault::TooManyCalls { processor, limit }, out)
+        }
+        PlayFault::OutOfMemory => write_script_line(ScriptFault::OutOfMemory, out),
         PlayFault::Actor { line } => {
             let script = Part::Word(Word::Script);
             let number = Part::Number(u64::from(line));

@@ -15,7 +15,7 @@ use crate::print::lacks_memory;
 use crate::streamed::Streamed;
 use outside::Source;
 use play_steps::{Played, play};
-use script_text::{PlayFault, ScriptFault};
+use script_text::PlayFault;
 use std::alloc::Global;
 use var_types::{Bytes, TextBuffer};
 
@@ -62,7 +62,7 @@ fn plan_schedule(alloc: Global, input: &[u8]) -> Plan
 {
     match play(alloc, input) {
         Ok(played) => plan_session(played),
-        Err(PlayFault::Script(ScriptFault::OutOfMemory)) => Plan::NoMemory,
+        Err(PlayFault::OutOfMemory) => Plan::NoMemory,
         Err(fault) => plan_play_fault(alloc, fault),
     }
 }

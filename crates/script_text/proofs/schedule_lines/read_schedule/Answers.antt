@@ -1,8 +1,7 @@
 use Rattle.std.proofs.Common.{◌≡◌, ℕ, ◌+◌, false, List, Err, refl, sym, ap, ◌∙◌}
 use Rattle.std.specs.Str.Lines.{lines}
 use Rattle.script_text.specs.declared.line_reason.LineReason.TheVariants as reason
-use Rattle.script_text.specs.declared.play_fault.PlayFault.TheVariants.{Script}
-use Rattle.script_text.specs.declared.script_fault.ScriptFault.TheVariants.{Line}
+use Rattle.script_text.specs.declared.play_fault.PlayFault.TheVariants.{Line}
 use Rattle.script_text.specs.declared.turn.Turn.{Turn}
 use Rattle.script_text.specs.FirstLine.{HasBadLine}
 use Rattle.script_text.specs.Lines.{is_comment, is_text}
@@ -17,7 +16,7 @@ bad_line line comment text = rw (comment, text) refl
 
 -- so lines that begin with one are refused
 bad_lines : (number processors : ℕ) (turns : List Turn) (text : List ℕ) → HasBadLine text
-    → before_schedule turns (schedule_from number processors (lines text)) ≡ Err (Script (Line number reason.Schedule))
+    → before_schedule turns (schedule_from number processors (lines text)) ≡ Err (Line number reason.Schedule)
 unfolding schedule_from
 bad_lines number processors turns text (line, later, is, comment, bad) =
     ap (λ (texts : List (List ℕ)). before_schedule turns (schedule_from number processors texts)) is
@@ -25,4 +24,4 @@ bad_lines number processors turns text (line, later, is, comment, bad) =
 
 pub returns-in_default : goal.returns-in_default
 returns-in_default c =
-    rw c.bad_line.ensures (sym c.lines.invariant.one_schedule ∙ bad_lines c.lines.number c.args.processors c.lines.turns.items c.lines.rest.now c.in_default.ensures)
+    (sym c.lines.invariant.one_schedule ∙ bad_lines c.lines.number c.args.processors c.lines.turns.items c.lines.rest.now c.in_default.ensures)

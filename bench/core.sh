@@ -1,7 +1,8 @@
 #!/usr/bin/env bash
-# Time and memory of 20,000 and of 200,000 steps that are asked of a world of eight processors over the writer's engine, played from a script: gets, sets of 40
-# volatile and non-volatile variables, and questions about the policies, in an order that looks random. A step of the longer play may take at most
-# twice as long, and each step at most 50 microseconds. The script and its report are part of what is measured.
+# Time and memory of 20,000 and of 200,000 steps that are asked of a world of eight processors over the writer's engine, played from a
+# script: gets, sets of 40 volatile and non-volatile variables, and questions about the policies, in an order that looks random. A step of
+# the longer play may take at most twice as long, and each step at most 50 microseconds. The script and its report are part of what is
+# measured.
 # usage: bench/core.sh [PROGRAM]      (default: the program that ./varsvc builds)
 set -eu
 top="$(cd "$(dirname "${BASH_SOURCE[0]}")/.." && pwd)"

@@ -1,14 +1,16 @@
 -- What an edit that was entered makes of the side.
-use Rattle.std.proofs.Common.{◌≡◌, ℕ, List, refl, sym, ap, subst, ◌∙◌, true≢false}
+use Rattle.std.proofs.Common.{◌≡◌, ℕ, List, Option, refl, sym, ap, subst, ◌∙◌, true≢false}
 use Rattle.mm_writer.proofs.Consistent.{state_grown}
+use Rattle.mm_writer.proofs.InDoubt.{doubted_grown}
 use Rattle.mm_writer.proofs.Sides.{consistent_edited, step_set}
 use Rattle.mm_writer.specs.Books.{Enters}
 use Rattle.mm_writer.specs.declared.books.Books.{Books}
 use Rattle.mm_writer.specs.declared.edit.Edit.{Edit}
 use Rattle.mm_writer.specs.Edit.{MayEdit, edited}
-use Rattle.mm_writer.specs.Engine.{IsKept, side_by}
+use Rattle.mm_writer.specs.Doubt.{SetInDoubt}
+use Rattle.mm_writer.specs.Engine.{AreDoubted, IsKept, side_by}
 use Rattle.mm_writer.specs.Outcome.{Grows, IsAnswered, entry_after}
-use Rattle.mm_writer.specs.Side.{IsConsistent, Side, grown, state_of}
+use Rattle.mm_writer.specs.Side.{IsConsistent, Side, first_state, grown, state_of}
 use Rattle.pending_range.specs.declared.ranges.Ranges.{Ranges}
 use Rattle.pending_range.specs.Laws.{AgreementGrows, AgreementIsReflexive}
 use Rattle.pending_range.specs.Ranges.{IsWider}
@@ -16,6 +18,7 @@ use Rattle.policy_table.specs.PolicyState.{PolicyState, policies_of}
 use Rattle.set_rules.specs.declared.room_totals.RoomTotals.{RoomTotals}
 use Rattle.set_rules.specs.RoomTotals.{IsTotalOf}
 use Rattle.var_trace.specs.declared.change.Change.{Change}
+use Rattle.var_trace.specs.StoresAfter.{history_in}
 use Rattle.var_types.specs.declared.call.Call.TheVariants.{Set as SetCalled}
 use Rattle.var_types.specs.declared.call.SetCall.{SetCall}
 use Rattle.var_types.specs.declared.reply.Reply.TheVariants.{Set as SetReplied}
@@ -28,7 +31,7 @@ use Rattle.var_types.specs.History.{Entry}
 use Rattle.var_types.specs.Set.{changed, set_step}
 use Rattle.var_types.specs.State.{State}
 use Rattle.var_types.specs.Step.{step}
-use Rattle.var_types.specs.Stores.{bytes_in, map_in, with_store}
+use Rattle.var_types.specs.Stores.{bytes_in, map_in, part, with_store}
 
 -- the side after an edit of the volatile store is the one of before with a change more
 pub grown_volatile : (opened mirror old new : List ℕ) (entry : Entry) (before after : Books) (e : Enters Volatile old new entry before after)
@@ -90,6 +93,15 @@ module _ (side next : Side) (totals left : RoomTotals) (policies : PolicyState) 
     rooms = subst (IsTotalOf left) (sym variables_next) rooms;
     policies = ap policies_of state_next ∙ kept.policies;
   }
+
+  -- a set in doubt stays so where the non-volatile variables do
+  pub doubted_over : part NonVolatile (edited edit (state_of side).variables) ≡ part NonVolatile (state_of side).variables → (set : SetInDoubt) (doubt : Option (List ℕ))
+      → AreDoubted (first_state side) (history_in side.log) set doubt → AreDoubted (first_state next) (history_in next.log) set doubt
+  doubted_over stay set doubt d =
+      let change : Change = record { entry = entry_after side processor index (SetCalled call); delta = e.change } in
+      subst (λ (s : Side). AreDoubted (first_state s) (history_in s.log) set doubt) (sym is_grown)
+      (doubted_grown side change (with_store side.stores store new) after.ranges
+      (sym (ap (λ (s : Side). part NonVolatile (state_of s).variables) is_grown) ∙ ap (part NonVolatile) variables_next ∙ stay) set doubt d)
 
   -- and the set was answered
   pub answered_ok : IsAnswered side next processor index (SetCalled call) (SetReplied Changed)

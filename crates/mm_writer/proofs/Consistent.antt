@@ -23,7 +23,7 @@ run-append state [] more = refl
 run-append state (entry ∷ history) more = run-append (step state entry.call).1 history more
 
 -- a number is one of those of a list, or that behind them
-below_or_last : (b : ℕ) (log : List Change) (change : Change) → b ≤ length (log ++ change ∷ []) → (b ≤ length log) ⊎ (b ≡ length log + 1)
+pub below_or_last : (b : ℕ) (log : List Change) (change : Change) → b ≤ length (log ++ change ∷ []) → (b ≤ length log) ⊎ (b ≡ length log + 1)
 below_or_last b log change within =
     let size : length (log ++ change ∷ []) ≡ length log + 1 = length-append log (change ∷ []) in
     ⊎_elim (λ (low : b < length log + 1). inl (omega arith)) (λ (high : length log + 1 ≤ b). inr (omega arith)) (cases_lt b (length log + 1))
@@ -40,7 +40,7 @@ module _ (side : Side) (change : Change) where
       ap (run (first_state side)) history_more ∙ run-append (first_state side) (history_in side.log) (change.entry ∷ [])
 
   -- the state after fewer changes is as it was
-  after_grown : (stores : Stores) (ranges : Ranges) (b : ℕ) → b ≤ length side.log
+  pub after_grown : (stores : Stores) (ranges : Ranges) (b : ℕ) → b ≤ length side.log
       → after (first_state (grown side change stores ranges)) (history_in (side.log ++ change ∷ [])) b ≡ after (first_state side) (history_in side.log) b
   unfolding first_state
   after_grown stores ranges b within =
@@ -49,7 +49,7 @@ module _ (side : Side) (change : Change) where
       ∙ ap (run (first_state side)) (take-append-le b (history_in side.log) (change.entry ∷ []) low)
 
   -- that after all of them is the state now
-  after_all : (stores : Stores) (ranges : Ranges) (b : ℕ) → b ≡ length side.log + 1
+  pub after_all : (stores : Stores) (ranges : Ranges) (b : ℕ) → b ≡ length side.log + 1
       → after (first_state (grown side change stores ranges)) (history_in (side.log ++ change ∷ [])) b ≡ state_of (grown side change stores ranges)
   unfolding state_of
   after_all stores ranges b last =

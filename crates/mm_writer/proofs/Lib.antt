@@ -10,7 +10,10 @@ pub mod Views
 pub mod RoomsAfter
 pub mod Kept
 pub mod Answered
-pub mod KeptBy
+pub mod Failing
+pub mod Doubts
+pub mod InDoubt
+pub mod Cached
 pub mod Decided
 pub mod Fitting
 pub mod Beginnings

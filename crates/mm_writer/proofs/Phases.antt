@@ -1,13 +1,15 @@
 -- A consistent side stays so by a change that writes no bytes.
-use Rattle.std.proofs.Common.{◌≡◌, ℕ, ◌+◌, Bool, true, false, List, length, refl, sym, ap, subst, ◌∙◌, true≢false, slice_index}
+use Rattle.std.proofs.Common.{◌≡◌, ℕ, ◌+◌, Bool, true, false, List, Option, length, refl, sym, ap, subst, ◌∙◌, true≢false, slice_index}
 use Rattle.std.proofs.lemmas.List.Elements.{All-nil}
 use Rattle.mm_writer.proofs.Consistent.{consistent_grown, state_grown}
+use Rattle.mm_writer.proofs.InDoubt.{doubted_grown}
 use Rattle.mm_writer.proofs.Sides.{means_now}
 use Rattle.mm_writer.specs.Books.{entered_in, phase_change}
 use Rattle.mm_writer.specs.declared.books.Books.{Books}
-use Rattle.mm_writer.specs.Engine.{IsKept, side_by}
+use Rattle.mm_writer.specs.Doubt.{SetInDoubt}
+use Rattle.mm_writer.specs.Engine.{AreDoubted, IsEngine, IsKept, side_by}
 use Rattle.mm_writer.specs.Outcome.{IsAnswered, entry_after}
-use Rattle.mm_writer.specs.Side.{IsInStore, Side, grown, state_of}
+use Rattle.mm_writer.specs.Side.{IsInStore, Side, first_state, grown, state_of}
 use Rattle.pending_range.specs.declared.ranges.Ranges.{Ranges}
 use Rattle.pending_range.specs.Laws.{AgreementGrows, AgreementIsReflexive}
 use Rattle.pending_range.specs.Ranges.{AgreeOutside}
@@ -15,6 +17,7 @@ use Rattle.policy_table.specs.PolicyState.{PolicyState, policies_of}
 use Rattle.set_rules.specs.declared.room_totals.RoomTotals.{RoomTotals}
 use Rattle.set_rules.specs.RoomTotals.{IsTotalOf}
 use Rattle.var_trace.specs.Pieces.{with_change}
+use Rattle.var_trace.specs.StoresAfter.{history_in}
 use Rattle.var_types.specs.declared.store.Store.{Store}
 use Rattle.var_types.specs.declared.store.Store.TheVariants.{NonVolatile, Volatile}
 use Rattle.var_types.specs.declared.call.Call.{Call}
@@ -82,6 +85,16 @@ module _ (grows : AgreementGrows) (same : AgreementIsReflexive) (side : Side) (t
         (record { wider = λ store at covered. covered }) (agree_phase side.ranges side.stores phase);
     rooms = subst (IsTotalOf totals) (sym (ap (λ (s : State). s.variables) state_left ∙ variables)) kept.rooms;
     policies = ap policies_of state_left ∙ policies;
+  }
+
+  -- and the set in doubt stays so
+  pub engine_phase : (set : SetInDoubt) (doubt : Option (List ℕ)) → AreDoubted (first_state side) (history_in side.log) set doubt
+      → IsEngine next totals after set doubt
+  engine_phase set doubt d = record {
+    kept = kept_phase;
+    doubted =
+        doubted_grown side (record { entry = entry; delta = phase_change phase }) (in_phase side.stores phase) side.ranges
+        (ap (λ (s : State). part NonVolatile s.variables) state_left ∙ ap (part NonVolatile) variables) set doubt d;
   }
 
   -- and the call was answered

@@ -1,13 +1,18 @@
 -- The writer's side by its parts.
-use Rattle.std.specs.Prelude.{◌≡◌, ℕ, false, List, []}
+use Rattle.std.specs.Prelude.{◌≡◌, ℕ, false, List, [], Option, Some, None}
 use Rattle.flash_dev.specs.Blank.{blank_volatile}
 use Rattle.mm_writer.specs.declared.books.Books.{Books}
-use Rattle.mm_writer.specs.Side.{IsConsistent, Side, state_of}
+use Rattle.mm_writer.specs.Doubt.{IsInDoubt, SetInDoubt, variables_with}
+use Rattle.mm_writer.specs.Side.{IsConsistent, Side, first_state, state_of}
 use Rattle.pending_range.specs.Ranges.{no_ranges}
 use Rattle.policy_table.specs.PolicyState.{PolicyState, policies_of}
 use Rattle.set_rules.specs.declared.room_totals.RoomTotals.{RoomTotals}
 use Rattle.set_rules.specs.RoomTotals.{IsTotalOf}
-use Rattle.var_types.specs.Stores.{Stores}
+use Rattle.var_trace.specs.StoresAfter.{history_in}
+use Rattle.var_types.specs.declared.store.Store.TheVariants.{NonVolatile}
+use Rattle.var_types.specs.History.{Entry}
+use Rattle.var_types.specs.State.{State}
+use Rattle.var_types.specs.Stores.{Stores, map_in}
 
 -- the stores at an opening: a volume, a volatile store without variables, and the boot phase (UEFI 2.10, 8.2)
 abbrev pub opened_stores : List ℕ → Stores
@@ -37,3 +42,18 @@ pub record IsKept (side : Side) (totals : RoomTotals) (table : PolicyState) : Ty
   pub consistent : IsConsistent side
   pub rooms : IsTotalOf totals (state_of side).variables
   pub policies : policies_of (state_of side) ≡ table
+
+-- a set is in doubt behind a history, and the bytes that its change was to leave have the variables that it would leave at its place
+pub record IsDoubted (first : State) (history : List Entry) (set : SetInDoubt) (after : List ℕ) : Type 0 where
+  pub is : IsInDoubt first history set
+  pub map : map_in NonVolatile after ≡ variables_with first history set
+
+-- where the store is in doubt of a change, it is that of the set that failed last
+abbrev pub AreDoubted : State → List Entry → SetInDoubt → Option (List ℕ) → Type 0
+AreDoubted first history set None = Unit {0}
+AreDoubted first history set (Some after) = IsDoubted first history set after
+
+-- what the engine keeps of its parts: those of the side, and which set failed last
+pub record IsEngine (side : Side) (totals : RoomTotals) (table : PolicyState) (set : SetInDoubt) (after : Option (List ℕ)) : Type 0 where
+  pub kept : IsKept side totals table
+  pub doubted : AreDoubted (first_state side) (history_in side.log) set after

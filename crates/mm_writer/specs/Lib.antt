@@ -1,8 +1,11 @@
 pub mod Side
+pub mod Doubt
 pub mod Outcome
 pub mod Books
 pub mod Edit
+pub mod Editing
 pub mod Changes
 pub mod Stands
 pub mod KeyPlaces
 pub mod Engine
+pub mod Behind

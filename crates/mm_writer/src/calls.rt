@@ -1,7 +1,9 @@
 //! The calls that write no bytes: reads of variables, calls about the policies, and the end of the boot phase; and what the engine lends.
 ghost use Rattle.std.specs.Prelude.{◌≡◌, ◌<◌, ◌≤◌, ◌/◌, IfOk, IfSome, None, OnErr, Some, is_some, length, min, true};
-ghost use Rattle.mm_writer.specs.Outcome.{IsAnswered, IsKeptBy, entry_after};
-ghost use Rattle.mm_writer.specs.Side.{IsConsistent, state_of};
+ghost use Rattle.mm_writer.specs.Doubt.{IsInDoubt};
+ghost use Rattle.mm_writer.specs.Outcome.{IsAnswered, IsKeptBut, entry_after};
+ghost use Rattle.mm_writer.specs.Side.{IsConsistent, first_state, state_of};
+ghost use Rattle.var_trace.specs.StoresAfter.{history_in};
 ghost use Rattle.var_types.specs.Answers.{get_answer, next_answer};
 ghost use Rattle.var_types.specs.declared.call.Call.TheVariants.{ExitBoot as ExitCalled, Policy as PolicyCalled};
 ghost use Rattle.var_types.specs.declared.reply.Reply.TheVariants.{Exit as ExitReplied, Policy as PolicyReplied};
@@ -205,11 +207,13 @@ impl<F: Flash> Engine<F> {
         self.store.flash()
     }
 
-    /// The history. The side is consistent, and no set being in doubt the flash keeps the history's non-volatile variables.
+    /// The history. The side is consistent, and the flash keeps the history's non-volatile variables, or those that the set in doubt would have left
+    /// at its place.
     pub fn trace(&self) -> &Trace
         ensures log { result.now ≡ record { log = self.now.1.1.log; limit = self.now.1.1.limit } }
         ensures consistent { IsConsistent self.now.1.1 }
-        ensures kept { self.now.1.0 ≡ None → IfSome (F.holds self.now.0) (IsKeptBy self.now.1.1) }
+        ensures keeps { IfSome (F.holds self.now.0) (IsKeptBut self.now.1.1 self.now.1.0) }
+        ensures doubt { IfSome self.now.1.0 (IsInDoubt (first_state self.now.1.1) (history_in self.now.1.1.log)) }
     {
         let _view = self.view();
         &self.books.trace

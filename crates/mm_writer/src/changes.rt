@@ -1,29 +1,29 @@
 //! Changes of one store with the books: all memory is taken before the store is written.
-ghost use Rattle.std.specs.Prelude.{◌≡◌, ◌<◌, None, Err, IfSome, OnErr, OnOk, length};
+ghost use Rattle.std.specs.Prelude.{◌≡◌, ◌≢◌, ◌<◌, None, Err, OnErr, OnOk, length};
 ghost use Rattle.flash_dev.specs.Moments.{Stays};
 ghost use Rattle.mm_writer.specs.Books.{Enters};
 ghost use Rattle.mm_writer.specs.Changes.{IsEntered, entry_by};
-ghost use Rattle.mm_writer.specs.Edit.{CanEdit, IsEdited, edited};
-ghost use Rattle.nv_store.specs.Outcome.{IsChangeLeft};
-ghost use Rattle.outside.specs.Faults.{HasCauseAt};
+ghost use Rattle.mm_writer.specs.Edit.{CanEdit, edited};
+ghost use Rattle.mm_writer.specs.Editing.{IsEditLeft, IsStillInDoubt};
+ghost use Rattle.nv_store.specs.Outcome.{IsLeftInDoubt};
+ghost use Rattle.outside.specs.Faults.{HasCause};
 ghost use Rattle.var_types.specs.declared.store.Store.TheVariants.{NonVolatile, Volatile};
-ghost use Rattle.var_types.specs.Kept.{kept};
-ghost use Rattle.var_types.specs.Stores.{map_in};
 
 use crate::books::Books;
 use crate::edit::Edit;
 use crate::editing::{edit_surely, spans_of};
 use crate::prepared::Caller;
 use crate::volatile_store::VolatileStore;
-use flash_dev::{Device, Flash};
+use flash_dev::Flash;
 use nv_store::NvStore;
 use std::alloc::Global;
 use var_types::{OutOfMemory, SetCall, Store};
 
-/// Why a change was not made.
+/// Why a change was not made: memory is wanting, the heal before it failed, or the change itself did.
 #[derive(Clone, Copy, Debug)]
 pub(crate) enum ChangeFault {
     OutOfMemory,
+    Unhealed,
     Device,
 }
 
@@ -35,17 +35,6 @@ impl From<OutOfMemory> for ChangeFault {
 
     fn from(_: OutOfMemory) -> Self {
         ChangeFault::OutOfMemory
-    }
-}
-
-impl From<Device> for ChangeFault {
-    ghost use Rattle.std.specs.Prelude.{◌≡◌};
-    ghost use Rattle.mm_writer.specs.declared.changes.ChangeFault.TheVariants as fault;
-
-    ghost from_gives = { λ _ e. e ≡ fault.Device };
-
-    fn from(_: Device) -> Self {
-        ChangeFault::Device
     }
 }
 
@@ -97,12 +86,13 @@ pub(crate) fn change_non_volatile<F: Flash>(
     requires room { length books.old.trace.log < books.old.trace.limit }
     ensures done { OnOk result (IsEntered NonVolatile edit.now store.old.1.0 store.new.1.0 (entry_by caller call.now books.old) books.old books.new) }
     ensures sure { OnOk result (store.new.1.1 ≡ None) }
-    ensures kept { OnOk result (IfSome (F.holds store.new.0) (λ image. kept image ≡ map_in NonVolatile store.new.1.0)) }
-    ensures mirror { OnErr result (store.new.1.0 ≡ store.old.1.0) }
     ensures books { OnErr result (books.new ≡ books.old) }
     ensures memory { result ≡ Err ChangeFault.OutOfMemory → store.new ≡ store.old }
-    ensures at_any_moment { store.old.1.1 ≡ None → Stays (IsChangeLeft (edited edit.now)) F.moment F.left_since F.holds store.old.0 store.new.0 }
-    ensures cause { HasCauseAt ChangeFault.Device (F.fault_count store.old.0) (F.fault_count store.new.0) result }
+    ensures unhealed { result ≡ Err ChangeFault.Unhealed → IsStillInDoubt F.moment F.left_since F.holds store.old store.new }
+    ensures failed { result ≡ Err ChangeFault.Device → IsLeftInDoubt (edited edit.now) store.old.1 store.new.1 }
+    ensures at_any_moment { result ≢ Err ChangeFault.OutOfMemory
+        → Stays (IsEditLeft (edited edit.now) store.old.1) F.moment F.left_since F.holds store.old.0 store.new.0 }
+    ensures cause { result ≢ Err ChangeFault.OutOfMemory → HasCause (F.fault_count store.old.0) (F.fault_count store.new.0) result }
 {
     let spans = spans_of(store, edit);
     let prepared = books.prepare_set(
@@ -113,13 +103,17 @@ pub(crate) fn change_non_volatile<F: Flash>(
         store.mirror(),
         &spans,
     )?;
-    edit_surely(store, edit)?;
-    books.enter(
-        prepared.entry,
-        prepared.delta,
-        Store::NonVolatile,
-        &spans,
-        store.mirror(),
-    );
-    Ok(())
+    match edit_surely(store, edit) {
+        Ok(()) => {
+            books.enter(
+                prepared.entry,
+                prepared.delta,
+                Store::NonVolatile,
+                &spans,
+                store.mirror(),
+            );
+            Ok(())
+        }
+        Err(fault) => Err(fault),
+    }
 }

@@ -1,13 +1,16 @@
 //! Edits of the non-volatile store.
-ghost use Rattle.std.specs.Prelude.{◌≡◌, ◌≢◌, None, Err, OnErr, OnOk, length};
+ghost use Rattle.std.specs.Prelude.{◌≡◌, ◌≢◌, Err, IfSome, IsSome, None, OnErr, OnOk, length};
 ghost use Rattle.flash_dev.specs.Moments.{Stays};
-ghost use Rattle.flash_dev.specs.Rules.{Leaves};
 ghost use Rattle.mm_writer.specs.Edit.{CanEdit, IsEdited, edit_spans, edited};
-ghost use Rattle.nv_store.specs.Outcome.{IsChangeLeft, IsKeptWith};
+ghost use Rattle.mm_writer.specs.Editing.{IsEditLeft, IsStillInDoubt};
+ghost use Rattle.nv_store.specs.Mirror.{IsTold};
+ghost use Rattle.nv_store.specs.Outcome.{IsChangeLeft, IsLeftInDoubt};
 ghost use Rattle.outside.specs.Faults.{HasCause};
 ghost use Rattle.var_types.specs.declared.store.Store.TheVariants.{NonVolatile};
+ghost use Rattle.var_types.specs.Kept.{IsContentOr};
 ghost use Rattle.var_types.specs.Spans.{AreWithin};
 
+use crate::changes::ChangeFault;
 use crate::edit::Edit;
 use flash_dev::{Device, Flash};
 use nv_store::{NvStore, StoreFault};
@@ -37,8 +40,7 @@ fn edit_sure<F: Flash>(store: &mut NvStore<F>, edit: &Edit) -> Result<(), Device
     requires can { CanEdit NonVolatile store.old.1.0 edit.now }
     ensures edited { OnOk result (IsEdited NonVolatile edit.now store.old.1.0 store.new.1.0) }
     ensures sure { OnOk result (store.new.1.1 ≡ None) }
-    ensures mirror { OnErr result (store.new.1.0 ≡ store.old.1.0) }
-    ensures kept { OnOk result (Leaves (IsKeptWith (edited edit.now)) (F.holds store.old.0) (F.holds store.new.0)) }
+    ensures failed { OnErr result (IsLeftInDoubt (edited edit.now) store.old.1 store.new.1) }
     ensures at_any_moment { Stays (IsChangeLeft (edited edit.now)) F.moment F.left_since F.holds store.old.0 store.new.0 }
     ensures cause { HasCause (F.fault_count store.old.0) (F.fault_count store.new.0) result }
 {
@@ -56,19 +58,58 @@ fn edit_sure<F: Flash>(store: &mut NvStore<F>, edit: &Edit) -> Result<(), Device
     }
 }
 
-/// Makes an edit, once a doubt has ended.
-pub(crate) fn edit_surely<F: Flash>(store: &mut NvStore<F>, edit: &Edit) -> Result<(), Device>
+// The same, where what the flash keeps is told by the mirror.
+fn edit_undoubted<F: Flash>(store: &mut NvStore<F>, edit: &Edit) -> Result<(), ChangeFault>
+    requires sure { store.old.1.1 ≡ None }
+    requires can { CanEdit NonVolatile store.old.1.0 edit.now }
+    ensures edited { OnOk result (IsEdited NonVolatile edit.now store.old.1.0 store.new.1.0) }
+    ensures sure { OnOk result (store.new.1.1 ≡ None) }
+    ensures memory { result ≢ Err ChangeFault.OutOfMemory }
+    ensures unhealed { result ≢ Err ChangeFault.Unhealed }
+    ensures failed { result ≡ Err ChangeFault.Device → IsLeftInDoubt (edited edit.now) store.old.1 store.new.1 }
+    ensures at_any_moment { Stays (IsEditLeft (edited edit.now) store.old.1) F.moment F.left_since F.holds store.old.0 store.new.0 }
+    ensures cause { HasCause (F.fault_count store.old.0) (F.fault_count store.new.0) result }
+{
+    let _mirror = store.mirror();
+    match edit_sure(store, edit) {
+        Ok(()) => Ok(()),
+        Err(Device) => Err(ChangeFault::Device),
+    }
+}
+
+// Ends a doubt: the flash keeps what it may have kept, and once it is done the mirror's variables.
+fn end_doubt<F: Flash>(store: &mut NvStore<F>) -> Result<(), Device>
+    requires doubt { IsSome store.old.1.1 }
+    ensures mirror { store.new.1.0 ≡ store.old.1.0 }
+    ensures sure { OnOk result (store.new.1.1 ≡ None) }
+    ensures same { OnErr result (store.new.1 ≡ store.old.1) }
+    ensures told { IfSome (F.holds store.old.0) (IsTold store.old.1.0 store.old.1.1) }
+    ensures at_any_moment { Stays (IsContentOr store.old.1.0) F.moment F.left_since F.holds store.old.0 store.new.0 }
+    ensures cause { HasCause (F.fault_count store.old.0) (F.fault_count store.new.0) result }
+{
+    let _mirror = store.mirror();
+    match store.heal() {
+        Ok(()) => Ok(()),
+        Err(Device) => Err(Device),
+    }
+}
+
+/// Makes an edit, once a doubt has ended. It takes no memory.
+pub(crate) fn edit_surely<F: Flash>(store: &mut NvStore<F>, edit: &Edit) -> Result<(), ChangeFault>
     requires { CanEdit NonVolatile store.old.1.0 edit.now }
     ensures edited { OnOk result (IsEdited NonVolatile edit.now store.old.1.0 store.new.1.0) }
     ensures sure { OnOk result (store.new.1.1 ≡ None) }
-    ensures mirror { OnErr result (store.new.1.0 ≡ store.old.1.0) }
-    ensures kept { store.old.1.1 ≡ None → OnOk result (Leaves (IsKeptWith (edited edit.now)) (F.holds store.old.0) (F.holds store.new.0)) }
-    ensures at_any_moment { store.old.1.1 ≡ None → Stays (IsChangeLeft (edited edit.now)) F.moment F.left_since F.holds store.old.0 store.new.0 }
+    ensures memory { result ≢ Err ChangeFault.OutOfMemory }
+    ensures unhealed { result ≡ Err ChangeFault.Unhealed → IsStillInDoubt F.moment F.left_since F.holds store.old store.new }
+    ensures failed { result ≡ Err ChangeFault.Device → IsLeftInDoubt (edited edit.now) store.old.1 store.new.1 }
+    ensures at_any_moment { Stays (IsEditLeft (edited edit.now) store.old.1) F.moment F.left_since F.holds store.old.0 store.new.0 }
     ensures cause { HasCause (F.fault_count store.old.0) (F.fault_count store.new.0) result }
 {
     if !store.in_doubt() {
-        return edit_sure(store, edit);
+        return edit_undoubted(store, edit);
     }
-    store.heal()?;
-    edit_sure(store, edit)
+    match end_doubt(store) {
+        Ok(()) => edit_undoubted(store, edit),
+        Err(Device) => Err(ChangeFault::Unhealed),
+    }
 }

@@ -1,9 +1,11 @@
-ghost use Rattle.std.specs.Prelude.{◌≡◌, ◌<◌, ◌≤◌, ◌^◌, ◌++◌, drop, None, true, false, IfOk, IfSome, List, length};
+ghost use Rattle.std.specs.Prelude.{◌≡◌, ◌<◌, ◌≤◌, ◌^◌, ◌++◌, drop, true, false, IfOk, IfSome, List, length};
+ghost use Rattle.mm_writer.specs.Doubt.{IsInDoubt};
 ghost use Rattle.mm_writer.specs.Edit.{MayEdit, MayWrite, edit_key, edited};
-ghost use Rattle.mm_writer.specs.Outcome.{AnswersSet, IsKeptBy};
-ghost use Rattle.mm_writer.specs.Side.{IsConsistent, state_of};
+ghost use Rattle.mm_writer.specs.Outcome.{AnswersSet, IsKeptBut};
+ghost use Rattle.mm_writer.specs.Side.{IsConsistent, first_state, state_of};
 ghost use Rattle.mm_writer.specs.Stands.{IsTotalWithout, Stands};
 ghost use Rattle.policy_table.specs.PolicyState.{policies_of};
+ghost use Rattle.var_trace.specs.StoresAfter.{history_in};
 ghost use Rattle.var_types.specs.declared.decision.Decision.TheVariants.{Remove as Removing, Write as Writing};
 ghost use Rattle.var_types.specs.declared.reply.SetReply.TheVariants.{Ok as Changed};
 ghost use Rattle.var_types.specs.declared.store.Store.TheVariants.{NonVolatile, Volatile};
@@ -15,6 +17,7 @@ ghost use Rattle.var_types.specs.Stores.{HaveSizes, state_in, state_seen};
 use crate::books::Books;
 use crate::changes::{ChangeFault, change_non_volatile, change_volatile};
 use crate::edit::Edit;
+use crate::failed_set::FailedSet;
 use crate::prepared::Caller;
 use crate::totals::totals_after;
 use crate::view::EngineView;
@@ -41,19 +44,21 @@ pub struct Engine<F: Flash> {
     pub(crate) totals: RoomTotals,
     pub(crate) policies: PolicyTable,
     pub(crate) opened: Snapshot<NvStore<F>>,
+    pub(crate) failed: FailedSet,
 }
 
 impl<F: Flash> Model for Engine<F> {
-    ghost use Rattle.std.specs.Prelude.{List, Option, ℕ};
-    ghost use Rattle.mm_writer.specs.Engine.{IsKept, side_by};
+    ghost use Rattle.std.specs.Prelude.{Option};
+    ghost use Rattle.mm_writer.specs.Doubt.{SetInDoubt, doubt_by};
+    ghost use Rattle.mm_writer.specs.Engine.{IsEngine, side_by};
     ghost use Rattle.mm_writer.specs.Side.{Side};
 
-    // The flash, with it the bytes that a set in doubt was to leave, and the side.
-    ghost Value = { F × (Option (List ℕ) × Side) };
+    // The flash, and with it the set in doubt and the side.
+    ghost Value = { F × (Option SetInDoubt × Side) };
 
-    ghost view = { λ e. (e.store.0, (e.store.1.1, side_by e.opened.value.1.0 e.store.1.0 e.volatile e.books)) };
+    ghost view = { λ e. (e.store.0, (doubt_by e.store.1.1 e.failed, side_by e.opened.value.1.0 e.store.1.0 e.volatile e.books)) };
 
-    ghost invariant = { λ e. IsKept (side_by e.opened.value.1.0 e.store.1.0 e.volatile e.books) e.totals e.policies };
+    ghost invariant = { λ e. IsEngine (side_by e.opened.value.1.0 e.store.1.0 e.volatile e.books) e.totals e.policies e.failed e.store.1.1 };
 }
 
 impl<F: Flash> Engine<F> {
@@ -68,7 +73,8 @@ impl<F: Flash> Engine<F> {
         ensures seen { state_seen result.non_volatile result.volatile result.runtime ≡ state_in self.now.1.1.stores }
         ensures consistent { IsConsistent self.now.1.1 }
         ensures sizes { HaveSizes self.now.1.1.stores }
-        ensures kept { self.now.1.0 ≡ None → IfSome (F.holds self.now.0) (IsKeptBy self.now.1.1) }
+        ensures keeps { IfSome (F.holds self.now.0) (IsKeptBut self.now.1.1 self.now.1.0) }
+        ensures doubt { IfSome self.now.1.0 (IsInDoubt (first_state self.now.1.1) (history_in self.now.1.1.log)) }
     {
         EngineView {
             non_volatile: region_in(Store::NonVolatile, self.store.mirror()),
@@ -85,7 +91,7 @@ impl<F: Flash> Engine<F> {
     fn decision(&self, call: &SetCall) -> (Decision, RoomTotals)
         ensures decision { result.0 ≡ decision (state_of self.now.1.1) call.now }
         ensures rest { IsTotalWithout result.1 (set_key call.now) (state_of self.now.1.1).variables }
-        ensures kept { self.now.1.0 ≡ None → IfSome (F.holds self.now.0) (IsKeptBy self.now.1.1) }
+        ensures keeps { IfSome (F.holds self.now.0) (IsKeptBut self.now.1.1 self.now.1.0) }
     {
         let view = self.view().at(&call.guid, call.name.as_slice());
         (decide(&view, call), view.rest())
@@ -126,7 +132,7 @@ impl<F: Flash> Engine<F> {
         }
     }
 
-    // Makes an edit of the non-volatile store that a set comes to, once a doubt has ended.
+    // Makes an edit of the non-volatile store that a set comes to, once a doubt has ended. Where the edit fails, the set is in doubt.
     fn edit_non_volatile(
         &mut self,
         edit: &Edit,
@@ -145,6 +151,7 @@ impl<F: Flash> Engine<F> {
         ranges_agree();
         let _view = self.view();
         let totals = totals_after(rest, edit);
+        let failed = FailedSet::of(caller, self.books.trace.len(), call);
         match change_non_volatile(
             self.alloc,
             &mut self.store,
@@ -158,7 +165,11 @@ impl<F: Flash> Engine<F> {
                 SetReply::Ok
             }
             Err(ChangeFault::OutOfMemory) => SetReply::OutOfMemory,
-            Err(ChangeFault::Device) => SetReply::Device,
+            Err(ChangeFault::Unhealed) => SetReply::Device,
+            Err(ChangeFault::Device) => {
+                self.failed = failed;
+                SetReply::Device
+            }
         }
     }
 
@@ -188,7 +199,7 @@ impl<F: Flash> Engine<F> {
     // What is stored at a set's key, with its payload behind it.
     fn joined(&self, call: &SetCall, payload: &[u8]) -> Result<Bytes, OutOfMemory>
         ensures bytes { IfOk result (λ bytes. bytes ≡ kept_bytes true (stored_at (state_of self.now.1.1) (set_key call.now)) ++ payload.now) }
-        ensures kept { self.now.1.0 ≡ None → IfSome (F.holds self.now.0) (IsKeptBy self.now.1.1) }
+        ensures keeps { IfSome (F.holds self.now.0) (IsKeptBut self.now.1.1 self.now.1.0) }
     {
         let mut bytes = Bytes::new(self.alloc);
         let view = self.view().at(&call.guid, call.name.as_slice());
@@ -279,7 +290,8 @@ impl<F: Flash> Engine<F> {
     }
 
     /// Answers SetVariable, as the one-thread service does after the history so far (UEFI 2.10, 8.2.3). A set that is to change a non-volatile
-    /// variable ends a doubt first; all memory is taken before the first step of the flash.
+    /// variable ends a doubt first; all memory is taken before the first step of the flash. `Device` where a step of the flash failed, in the set or in
+    /// ending the doubt before it.
     pub fn set(&mut self, processor: u8, index: u32, call: &SetCall) -> SetReply
         ensures { AnswersSet F.moment F.left_since F.holds F.fault_count self.old self.new processor index call.now result }
     {

@@ -7,28 +7,33 @@ use var_types::{Bytes, GetAnswer, Guid, SetCall, SetReply, Units, Verdict};
 
 const VENDOR: Guid = Guid { bytes: [7; 16] };
 
-const A: u16 = 65;
+pub(crate) const A: u16 = 65;
 
-const B: u16 = 66;
+pub(crate) const B: u16 = 66;
 
-const KEPT: u32 = 7;
+pub(crate) const KEPT: u32 = 7;
 
 const APPEND: u32 = 0x47;
 
-const TEARS: [Torn; 3] = [Torn::Before, Torn::Half, Torn::After];
+pub(crate) const TEARS: [Torn; 3] = [Torn::Before, Torn::Half, Torn::After];
 
 /// A set of a name of one unit: its attributes, how many bytes, and what they all are.
 #[derive(Clone, Copy)]
-struct Set(u16, u32, u16, u8);
+pub(crate) struct Set(
+    pub(crate) u16,
+    pub(crate) u32,
+    pub(crate) u16,
+    pub(crate) u8,
+);
 
 /// What the variables A and B have: how many bytes, and the first and the last of them.
 #[derive(Clone, Copy, Debug, PartialEq, Eq)]
-struct Shown {
-    a: (u32, u8, u8),
-    b: (u32, u8, u8),
+pub(crate) struct Shown {
+    pub(crate) a: (u32, u8, u8),
+    pub(crate) b: (u32, u8, u8),
 }
 
-fn flash_of(
+pub(crate) fn flash_of(
     alloc: Global,
     image: &[u8],
     fails: &[u32],
@@ -44,14 +49,14 @@ fn flash_of(
     Ok(MemFlash::new(image.to_vec(alloc)?, plan))
 }
 
-fn begin(rt: &impl Abort, alloc: Global, flash: MemFlash) -> Engine<MemFlash> {
+pub(crate) fn begin(rt: &impl Abort, alloc: Global, flash: MemFlash) -> Engine<MemFlash> {
     match Engine::begin(alloc, flash, 20) {
         Ok(engine) => engine,
         Err(_) => panic!(rt; "no engine is opened"),
     }
 }
 
-fn begin_whole(
+pub(crate) fn begin_whole(
     rt: &impl Abort,
     alloc: Global,
     image: &[u8],
@@ -59,7 +64,11 @@ fn begin_whole(
     Ok(begin(rt, alloc, flash_of(alloc, image, &[], None, Torn::Before)?))
 }
 
-fn make(engine: &mut Engine<MemFlash>, alloc: Global, set: Set) -> Result<SetReply, Fail> {
+pub(crate) fn make(
+    engine: &mut Engine<MemFlash>,
+    alloc: Global,
+    set: Set,
+) -> Result<SetReply, Fail> {
     let data = vec![in alloc; set.3; usize::from(set.2)]?;
     let call = SetCall {
         guid: VENDOR,
@@ -88,7 +97,7 @@ fn seen(engine: &Engine<MemFlash>, unit: u16, into: &mut [u8]) -> (u32, u8, u8) 
     }
 }
 
-fn show(engine: &Engine<MemFlash>, alloc: Global) -> Result<Shown, AllocError> {
+pub(crate) fn show(engine: &Engine<MemFlash>, alloc: Global) -> Result<Shown, AllocError> {
     let mut into = vec![in alloc; 0u8; 65_536]?;
     let a = seen(engine, A, &mut into);
     let b = seen(engine, B, &mut into);
@@ -96,7 +105,7 @@ fn show(engine: &Engine<MemFlash>, alloc: Global) -> Result<Shown, AllocError> {
 }
 
 /// An image with these variables, which an engine has set.
-fn image(rt: &impl Abort, alloc: Global, sets: &[Set]) -> Result<Vec<u8>, Fail> {
+pub(crate) fn image(rt: &impl Abort, alloc: Global, sets: &[Set]) -> Result<Vec<u8>, Fail> {
     let blank = vec![in alloc; 0u8; 131_072]?;
     let mut flash = flash_of(alloc, &blank, &[], None, Torn::Before)?;
     assert!(rt; format_image(&mut flash).is_ok());
@@ -109,7 +118,7 @@ fn image(rt: &impl Abort, alloc: Global, sets: &[Set]) -> Result<Vec<u8>, Fail> 
 }
 
 /// What an image shows once it is opened again.
-fn show_again(
+pub(crate) fn show_again(
     rt: &impl Abort,
     alloc: Global,
     engine: Engine<MemFlash>,
@@ -120,7 +129,7 @@ fn show_again(
 }
 
 /// A set that is to fail.
-fn fail(
+pub(crate) fn fail(
     rt: &impl Abort,
     alloc: Global,
     engine: &mut Engine<MemFlash>,
@@ -132,7 +141,7 @@ fn fail(
 }
 
 /// A set that is to be done.
-fn change(
+pub(crate) fn change(
     rt: &impl Abort,
     alloc: Global,
     engine: &mut Engine<MemFlash>,
@@ -182,7 +191,7 @@ fn fail_once(
 }
 
 /// The call of the flash that a set begins with, and what is shown before and after it; it is to take so many flash steps.
-fn whole(
+pub(crate) fn whole(
     rt: &impl Abort,
     alloc: Global,
     bytes: &[u8],

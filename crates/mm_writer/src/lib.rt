@@ -5,14 +5,20 @@
 mod books;
 mod calls;
 mod changes;
+#[cfg(test)]
+mod doubt_tests;
 mod edit;
 mod editing;
 mod engine;
+mod failed_set;
 #[cfg(test)]
 mod flash_tests;
 mod in_memory;
 mod key_places;
 mod key_view;
+mod merging;
+#[cfg(test)]
+mod merging_tests;
 mod opening;
 #[cfg(test)]
 mod plain_tests;

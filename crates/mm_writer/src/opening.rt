@@ -18,6 +18,7 @@ ghost use Rattle.var_types.specs.Stores.{map_in};
 
 use crate::books::Books;
 use crate::engine::Engine;
+use crate::failed_set::FailedSet;
 use crate::volatile_store::VolatileStore;
 use flash_dev::Flash;
 use nv_store::{LoadFault, LoadWhy, NvStore};
@@ -78,6 +79,7 @@ impl<F: Flash> Engine<F> {
             totals,
             policies: PolicyTable::new(alloc),
             opened,
+            failed: FailedSet::none(alloc),
         }
     }
 

@@ -90,15 +90,15 @@ module _ (old new : EngineState) (processor index : ℕ) (call : Call) (reply : 
   }
 
 -- what a set may leave is no short list
-set_left : (side : Side) (call : SetCall) (image : List ℕ) → length image ≡ 131072 → HasNoShort (IsSetLeft side call) image
+set_left : (side : Side) (call : SetCall) (image : List ℕ) → length image ≡ 131072 → HasNoShort (IsSetLeft side None call) image
 set_left side call image size = record { none = λ left short is. not_short image left size short is.headers }
 
 -- what it may leave keeps the variables of before or those behind it
-set_keeps : (side : Side) (call : SetCall) (image left : List ℕ) → IsSetLeft side call image left → KeepsEither side (Set call) left
+set_keeps : (side : Side) (call : SetCall) (image left : List ℕ) → IsSetLeft side None call image left → KeepsEither side (Set call) left
 unfolding step
 set_keeps side call image left is = is.kept
 
-module _ (old new : EngineState) (call : SetCall) (ready : IsReady old) (whole : IsWhole old) (stays : StaysListed (IsSetLeft old.1.1 call) old.0 new.0) where
+module _ (old new : EngineState) (call : SetCall) (ready : IsReady old) (whole : IsWhole old) (stays : StaysListed (IsSetLeft old.1.1 None call) old.0 new.0) where
   -- the flash before, with no step listed
   begun : old.0 ≡ record { first = bytes_of old.0; steps = []; faults = old.0.faults }
   begun = λ i.
@@ -109,22 +109,22 @@ module _ (old new : EngineState) (call : SetCall) (ready : IsReady old) (whole :
       first_now : old.0.first ≡ bytes_of old.0
       first_now = ap (λ (s : List FlashStep). after_steps s old.0.first) (sym ready.given)
 
-  stays_begun : StaysListed (IsSetLeft old.1.1 call) (record { first = bytes_of old.0; steps = []; faults = old.0.faults }) new.0
-  stays_begun = subst (λ (f : ListedState). StaysListed (IsSetLeft old.1.1 call) f new.0) begun stays
+  stays_begun : StaysListed (IsSetLeft old.1.1 None call) (record { first = bytes_of old.0; steps = []; faults = old.0.faults }) new.0
+  stays_begun = subst (λ (f : ListedState). StaysListed (IsSetLeft old.1.1 None call) f new.0) begun stays
 
   pub set_first : new.0.first ≡ bytes_of old.0
-  set_first = first_same (IsSetLeft old.1.1 call) (bytes_of old.0) old.0.faults new.0 whole.size (set_left old.1.1 call (bytes_of old.0) whole.size) stays_begun
+  set_first = first_same (IsSetLeft old.1.1 None call) (bytes_of old.0) old.0.faults new.0 whole.size (set_left old.1.1 call (bytes_of old.0) whole.size) stays_begun
 
   pub set_moments : (left : List ℕ) → IsLeftIn new.0.steps new.0.first left → KeepsEither old.1.1 (Set call) left
   set_moments left is =
       ⊎_elim (λ same. inl (subst (IsKeptBy old.1.1) (sym same) (whole.kept ready.sure))) (set_keeps old.1.1 call (bytes_of old.0) left)
-      (left_by_calls (IsSetLeft old.1.1 call) (bytes_of old.0) old.0.faults new.0 whole.size (set_left old.1.1 call (bytes_of old.0) whole.size) stays_begun left is)
+      (left_by_calls (IsSetLeft old.1.1 None call) (bytes_of old.0) old.0.faults new.0 whole.size (set_left old.1.1 call (bytes_of old.0) whole.size) stays_begun left is)
 
 -- a set that was answered
 pub set_done : (old new : EngineState) (processor index : ℕ) (call : SetCall) (reply : SetReply) → IsReady old → IsWhole old
     → IsAnswered old.1.1 new.1.1 processor index (Set call) (SetReplied reply) → (reply ≢ set.Ok → reply ≢ set.Device → new.0 ≡ old.0)
     → (reply ≢ set.Ok → reply ≢ set.Device → new.1.0 ≡ old.1.0) → (reply ≡ set.Ok → old.1.0 ≡ None → new.1.0 ≡ None)
-    → StaysListed (IsSetLeft old.1.1 call) old.0 new.0 → reply ≢ set.OutOfMemory → reply ≢ set.Device
+    → StaysListed (IsSetLeft old.1.1 None call) old.0 new.0 → reply ≢ set.OutOfMemory → reply ≢ set.Device
     → IsDone old new processor index (Set call) (SetReplied reply)
 set_done old new processor index call set.Ok ready whole answered flash doubt sure stays memory device =
     touched_done old new processor index (Set call) (SetReplied set.Ok) ready whole answered refl refl refl (sure refl ready.sure)

@@ -1,5 +1,6 @@
 -- The writer's engine over a flash that lists its steps, as a writer of the core.
 use Rattle.std.specs.Prelude.{◌≡◌, ◌⊎◌, ℕ, ◌≤◌, true, false, List, [], length, Option, None}
+use Rattle.mm_writer.specs.Doubt.{SetInDoubt}
 use Rattle.mm_writer.specs.Outcome.{Grows, IsKeptBy, entry_after}
 use Rattle.mm_writer.specs.Side.{IsConsistent, Side, first_state, state_of}
 use Rattle.play_steps.specs.ListedFlash.{IsLeftIn, ListedState, bytes_of}
@@ -17,9 +18,9 @@ pub record PlayedWriter : Type 0 where
   pub opening : Opening
   pub own : Writer
 
--- the flash of an engine, the bytes that a set in doubt was to leave, and its side
+-- the flash of an engine, the set in doubt, and its side
 abbrev pub EngineState : Type 0
-EngineState = ListedState × (Option (List ℕ) × Side)
+EngineState = ListedState × (Option SetInDoubt × Side)
 
 -- from where an engine starts: the state and the stores that its side opened with
 abbrev pub opening_of : EngineState → Opening

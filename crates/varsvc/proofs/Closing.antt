@@ -1,11 +1,11 @@
 -- From an opening to the calls that were run on it, and to what they leave.
-use Rattle.std.proofs.Common.{◌≡◌, ℕ, ◌≤◌, Bool, true, false, true≢false, Result, Ok, Err, IsOk, List, [], length, sum_by, Option, Some, None, IfSome, IsSomeAnd, refl, sym, ap, subst, ◌∙◌, arith, inl}
-use Rattle.std.proofs.lemmas.List.{take_all}
+use Rattle.std.proofs.Common.{◌≡◌, ℕ, ◌≤◌, Bool, true, false, true≢false, Result, Ok, Err, IsOk, List, [], length, sum_by, Option, Some, None, IfSome, IsSomeAnd, refl, sym, ap, subst, ◌∙◌, arith, inl, inr, ⊎_elim}
 use Rattle.flash_dev.specs.declared.geometry.Geometry.{Geometry}
 use Rattle.flash_dev.specs.declared.image_fault.ImageFault.{ImageFault}
 use Rattle.flash_dev.proofs.Moments.{stays_since, stays_weaken}
 use Rattle.flash_dev.specs.Rules.{Leaves}
-use Rattle.mm_writer.specs.Outcome.{IsKeptBy}
+use Rattle.mm_writer.specs.Doubt.{IsInDoubt, SetInDoubt, variables_at, variables_with}
+use Rattle.mm_writer.specs.Outcome.{IsKeptBut, IsKeptBy}
 use Rattle.mm_writer.specs.Side.{Side, first_state, state_of}
 use Rattle.ftw_mount.specs.Mount.{content_geometry}
 use Rattle.nv_store.specs.Opening.{IsOpeningLeft, refusal_by, refusal_of}
@@ -22,11 +22,11 @@ use Rattle.var_types.specs.WorkArea.{is_blank, work_state}
 use Rattle.var_types.specs.State.{State}
 use Rattle.var_types.specs.Stores.{part}
 use Rattle.varsvc.specs.Opened.{IsOpened}
-use Rattle.varsvc.specs.Running.{HasRun, IsFrontLeft}
-use Rattle.varsvc.specs.Runs.{LeavesRun, start_on, variables_at}
+use Rattle.varsvc.specs.Running.{HasRun, IsLeftSoFar}
+use Rattle.varsvc.specs.Runs.{HasSetMore, IsRunLeft, KeepsRun, LeavesRun, WasFailed, all_answered, start_on}
 use Rattle.varsvc.specs.Told.{told_of}
 use Rattle.varsvc.proofs.Processors.{no_processor}
-use Rattle.varsvc.proofs.Running.{front_now, length_history}
+use Rattle.varsvc.proofs.Running.{state_is}
 
 -- an image that isn't refused is accepted
 accepted_image : (image : List ℕ) → refusal_of image ≡ None → IsOk (content_geometry image) × IsSound image
@@ -46,11 +46,12 @@ pub state_first : (side : Side) → side.log ≡ [] → state_of side ≡ first_
 unfolding state_of
 state_first side empty = ap (λ (log : List Change). run (first_state side) (history_in log)) empty
 
-module _ {F : Type 0} {fault_count moment : F → ℕ} {left_since : F → ℕ → List ℕ → Type 0} {holds : F → Option (List ℕ)} (flash : F) (calls : ℕ) (opened : F × (Option (List ℕ) × Side)) (o : IsOpened fault_count moment left_since holds flash calls opened) (kept_then : opened.1.0 ≡ None → IfSome (holds opened.0) (IsKeptBy opened.1.1)) where
+module _ {F : Type 0} {fault_count moment : F → ℕ} {left_since : F → ℕ → List ℕ → Type 0} {holds : F → Option (List ℕ)} (flash : F) (calls : ℕ) (opened : F × (Option SetInDoubt × Side)) (o : IsOpened fault_count moment left_since holds flash calls opened) (kept_then : IfSome (holds opened.0) (IsKeptBut opened.1.1 opened.1.0)) where
   -- the image that was opened kept the variables of the first state, at each moment of the opening too
   kept_first : (image : List ℕ) → holds flash ≡ Some image → kept image ≡ part NonVolatile (first_state opened.1.1).variables
   kept_first image told =
-      from (holds opened.0) (subst (λ (t : Option (List ℕ)). Leaves IsOpeningLeft t (holds opened.0)) told o.at_any_moment.now) (kept_then o.sure)
+      from (holds opened.0) (subst (λ (t : Option (List ℕ)). Leaves IsOpeningLeft t (holds opened.0)) told o.at_any_moment.now)
+      (subst (λ (d : Option SetInDoubt). IfSome (holds opened.0) (IsKeptBut opened.1.1 d)) o.sure kept_then)
       ∙ ap (λ (s : State). part NonVolatile s.variables) (state_first opened.1.1 o.empty)
     where
       from : (now : Option (List ℕ)) → IsSomeAnd now (IsOpeningLeft image) → IfSome now (IsKeptBy opened.1.1)
@@ -58,10 +59,8 @@ module _ {F : Type 0} {fault_count moment : F → ℕ} {left_since : F → ℕ �
       from None is held = absurd is
       from (Some left) is held = sym is.kept ∙ held
 
-  front_opened : (image left : List ℕ) → holds flash ≡ Some image → IsOpeningLeft image left → IsFrontLeft opened.1.1 image left
-  front_opened image left told is =
-      front_now opened.1.1 image left
-      (is.kept ∙ kept_first image told ∙ ap (λ (s : State). part NonVolatile s.variables) (sym (state_first opened.1.1 o.empty)))
+  left_opened : (image left : List ℕ) → holds flash ≡ Some image → IsOpeningLeft image left → IsLeftSoFar (first_state opened.1.1) [] image left
+  left_opened image left told is = inl (0, omega arith, is.kept ∙ kept_first image told)
 
   pub run_first : HasRun fault_count moment left_since holds (first_state opened.1.1) flash opened []
   run_first = record {
@@ -72,11 +71,12 @@ module _ {F : Type 0} {fault_count moment : F → ℕ} {left_since : F → ℕ �
     calm = λ _. o.calm;
     failed = inl (let e = o.calm in omega (arith, e));
     never_falls = let e = o.calm in omega (arith, e);
-    sure = λ _. o.sure;
-    at_any_moment = λ _. stays_weaken IsOpeningLeft (IsFrontLeft opened.1.1) flash opened.0 o.at_any_moment (λ image left told is. front_opened image left told is);
+    doubt = subst (λ (d : Option SetInDoubt). IfSome d (WasFailed [])) (sym o.sure) tt;
+    at_any_moment =
+        stays_weaken IsOpeningLeft (IsLeftSoFar (first_state opened.1.1) []) flash opened.0 o.at_any_moment (λ image left told is. left_opened image left told is);
   }
 
-  module _ (only_now : (left : List ℕ) → left_since flash (moment flash) left → IfSome (holds flash) (λ image. left ≡ image)) (closed : F × (Option (List ℕ) × Side)) (xs : List (List Answered)) (ran : HasRun fault_count moment left_since holds (first_state opened.1.1) flash closed xs) (count : sum_by length xs ≡ calls) (kept_now : closed.1.0 ≡ None → IfSome (holds closed.0) (IsKeptBy closed.1.1)) where
+  module _ (only_now : (left : List ℕ) → left_since flash (moment flash) left → IfSome (holds flash) (λ image. left ≡ image)) (closed : F × (Option SetInDoubt × Side)) (xs : List (List Answered)) (ran : HasRun fault_count moment left_since holds (first_state opened.1.1) flash closed xs) (count : sum_by length xs ≡ calls) (kept_now : IfSome (holds closed.0) (IsKeptBut closed.1.1 closed.1.0)) (may_now : IfSome closed.1.0 (IsInDoubt (first_state closed.1.1) (history_in closed.1.1.log))) where
     -- the first state by the image
     pub first_on : IfSome (holds flash) (λ image. first_state opened.1.1 ≡ start_on image (sum_by length xs))
     first_on = some (holds flash) o.state
@@ -86,64 +86,59 @@ module _ {F : Type 0} {fault_count moment : F → ℕ} {left_since : F → ℕ �
         some None is = tt
         some (Some image) is = sym (state_first opened.1.1 o.empty) ∙ is ∙ ap (start_on image) (sym count)
 
-    -- the variables after a front of the side's history are those after the session's
-    variables_are : (k : ℕ) → part NonVolatile (after (first_state closed.1.1) (history_in closed.1.1.log) k).variables
-        ≡ variables_at (first_state opened.1.1) (history_from 0 xs) k
-    variables_are k =
-        ap (λ (s : State). part NonVolatile (after s (history_in closed.1.1.log) k).variables) ran.opened
-        ∙ ap (λ (es : List Entry). part NonVolatile (after (first_state opened.1.1) es k).variables) ran.log
+    -- the history of the session
+    abbrev history : List Entry
+    history = history_from 0 xs
 
-    as_many : length closed.1.1.log ≡ length (history_from 0 xs)
-    as_many = sym (length_history closed.1.1) ∙ ap (λ (es : List Entry). length es) ran.log
-
-    front_is : (image left : List ℕ) → IsFrontLeft closed.1.1 image left
-        → (k : ℕ) × (k ≤ length (history_from 0 xs)) × (kept left ≡ variables_at (first_state opened.1.1) (history_from 0 xs) k)
-    front_is image left (k, within, is) = let e = as_many in (k, omega (arith, within, e), is ∙ variables_are k)
-
-    -- all of it
-    whole : (left : List ℕ) → IsKeptBy closed.1.1 left → kept left ≡ variables_at (first_state opened.1.1) (history_from 0 xs) (length (history_from 0 xs))
-    unfolding state_of
+    -- what keeps the side's variables keeps those after the whole of it
+    whole : (left : List ℕ) → IsKeptBy closed.1.1 left → KeepsRun (first_state opened.1.1) history (all_answered xs) left
     whole left is =
-        is
-        ∙ ap (λ (es : List Entry). part NonVolatile (run (first_state closed.1.1) es).variables)
-        (sym (take_all (length (history_from 0 xs)) (history_in closed.1.1.log) (let e = ap (λ (es : List Entry). length es) ran.log in omega (arith, e))))
-        ∙ variables_are (length (history_from 0 xs))
+        inl (is ∙ ap (λ (s : State). part NonVolatile s.variables) (state_is closed.1.1 (first_state opened.1.1) history ran.opened ran.log))
 
-    kept_end : (told : Option (List ℕ)) → Leaves (IsFrontLeft closed.1.1) told (holds closed.0) → IfSome (holds closed.0) (IsKeptBy closed.1.1)
-        → IfSome told (λ image. IsSomeAnd (holds closed.0) (λ left. kept left ≡ variables_at (first_state opened.1.1) (history_from 0 xs) (length (history_from 0 xs))))
+    -- and what keeps those with the set in doubt, those with one set more
+    but_whole : (doubt : Option SetInDoubt) (left : List ℕ) → IfSome doubt (IsInDoubt (first_state closed.1.1) (history_in closed.1.1.log)) → IfSome doubt (WasFailed (all_answered xs))
+        → IsKeptBut closed.1.1 doubt left → KeepsRun (first_state opened.1.1) history (all_answered xs) left
+    but_whole None left may failed is = whole left is
+    but_whole (Some set) left may failed is =
+        ⊎_elim (whole left)
+        (λ (with_it : kept left ≡ variables_with (first_state closed.1.1) (history_in closed.1.1.log) set).
+        inr
+        (record {
+          set = set;
+          failed = failed;
+          doubt =
+              subst (λ (s : State). IsInDoubt s history set) ran.opened
+              (subst (λ (es : List Entry). IsInDoubt (first_state closed.1.1) es set) ran.log may);
+          kept = with_it ∙ (λ i. variables_with (ran.opened i) (ran.log i) set);
+        }))
+        is
+
+    kept_end : (told : Option (List ℕ)) → Leaves (IsLeftSoFar (first_state opened.1.1) xs) told (holds closed.0) → IfSome (holds closed.0) (IsKeptBut closed.1.1 closed.1.0)
+        → IfSome told (λ image. IsSomeAnd (holds closed.0) (KeepsRun (first_state opened.1.1) history (all_answered xs)))
     kept_end None stays held = tt
     kept_end (Some image) stays held = from (holds closed.0) stays held
       where
-        from : (now : Option (List ℕ)) → IsSomeAnd now (IsFrontLeft closed.1.1 image) → IfSome now (IsKeptBy closed.1.1)
-            → IsSomeAnd now (λ left. kept left ≡ variables_at (first_state opened.1.1) (history_from 0 xs) (length (history_from 0 xs)))
+        from : (now : Option (List ℕ)) → IsSomeAnd now (IsLeftSoFar (first_state opened.1.1) xs image) → IfSome now (IsKeptBut closed.1.1 closed.1.0)
+            → IsSomeAnd now (KeepsRun (first_state opened.1.1) history (all_answered xs))
         from None is held = absurd is
-        from (Some left) is held = whole left held
-
-    fronts : (told : Option (List ℕ)) (left : List ℕ) → IfSome told (λ image. IsFrontLeft closed.1.1 image left)
-        → IfSome told (λ image. (k : ℕ) × (k ≤ length (history_from 0 xs)) × (kept left ≡ variables_at (first_state opened.1.1) (history_from 0 xs) k))
-    fronts None left is = tt
-    fronts (Some image) left is = front_is image left is
+        from (Some left) is held = but_whole closed.1.0 left may_now ran.doubt held
 
     pub leaves_on : (size : F → ℕ) (input : Option (List ℕ))
         → LeavesRun (told_of holds size fault_count moment left_since input flash closed.0) (first_state opened.1.1) xs
     leaves_on size input = record {
-      keeps = λ not. kept_end (holds flash) (ran.at_any_moment not).now (kept_now (ran.sure not));
-      at_any_moment = λ not.
+      keeps = kept_end (holds flash) ran.at_any_moment.now kept_now;
+      at_any_moment =
           later (holds flash)
           (λ left since.
-          fronts (holds flash) left
-          (stays_since (IsFrontLeft closed.1.1) flash closed.0 left (ran.at_any_moment not) (only_now left)
-          (λ image told.
-          (0, omega arith, kept_first image told ∙ ap (λ (s : State). part NonVolatile s.variables) (sym ran.opened))) since));
+          stays_since (IsLeftSoFar (first_state opened.1.1) xs) flash closed.0 left ran.at_any_moment (only_now left)
+          (λ image told. inl (0, omega arith, kept_first image told)) since);
       calm = ran.calm;
       failed = ran.failed;
     }
       where
         later : (told : Option (List ℕ))
-            → ((left : List ℕ) → left_since closed.0 (moment flash) left
-            → IfSome told (λ image. (k : ℕ) × (k ≤ length (history_from 0 xs)) × (kept left ≡ variables_at (first_state opened.1.1) (history_from 0 xs) k)))
-            → IfSome told (λ image. (left : List ℕ) → left_since closed.0 (moment flash) left
-            → (k : ℕ) × (k ≤ length (history_from 0 xs)) × (kept left ≡ variables_at (first_state opened.1.1) (history_from 0 xs) k))
+            → ((left : List ℕ) → left_since closed.0 (moment flash) left → IfSome told (λ image. IsRunLeft (first_state opened.1.1) history (all_answered xs) left))
+            → IfSome told (λ image. (left : List ℕ) → left_since closed.0 (moment flash) left → IsRunLeft (first_state opened.1.1) history (all_answered xs) left)
         later None h = tt
         later (Some image) h = h
 

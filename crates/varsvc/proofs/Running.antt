@@ -1,11 +1,15 @@
 -- A run of calls on the writer's side: what one call more makes of it.
-use Rattle.std.proofs.Common.{◌≡◌, ◌≢◌, ◌⊎◌, inl, inr, ⊎_elim, ℕ, ◌+◌, ◌-◌, ◌^◌, ◌≤◌, Bool, true, false, List, [], ◌∷◌, ◌++◌, length, take, filter, Option, None, IfSome, refl, sym, ap, subst, ◌∙◌, arith, true≢false, if◌then◌else◌}
-use Rattle.std.proofs.lemmas.Bool.{cases_Bool, cases_lt}
+use Rattle.std.proofs.Common.{◌≡◌, ◌≢◌, ◌⊎◌, inl, inr, ⊎_elim, ℕ, ◌+◌, ◌-◌, ◌^◌, ◌≤◌, Bool, true, false, List, [], ◌∷◌, ◌++◌, length, take, filter, Option, Some, None, IfSome, refl, sym, ap, subst, ◌∙◌, arith, true≢false, if◌then◌else◌}
+use Rattle.std.proofs.lemmas.Bool.{cases_Bool}
 use Rattle.std.proofs.lemmas.List.{append-nil, length-append, length-map, map-append, take-append-le, take_all}
-use Rattle.std.proofs.lemmas.List.Elements.{filter-append}
+use Rattle.std.proofs.lemmas.List.Elements.{Contains-append_left, Contains-push, filter-append}
+use Rattle.std.specs.List.{Contains}
+use Rattle.std.specs.Prelude.{IsSomeAnd}
+use Rattle.flash_dev.proofs.Calls.{told_at}
 use Rattle.flash_dev.proofs.Moments.{stays_none, stays_then, stays_weaken}
 use Rattle.flash_dev.specs.Moments.{Stays}
-use Rattle.mm_writer.specs.Outcome.{Grows, HasReplyCause, IsAnswered, IsKeptBy, IsSetLeft, entry_after}
+use Rattle.mm_writer.specs.Doubt.{IsInDoubt, SetInDoubt, variables_at, variables_with}
+use Rattle.mm_writer.specs.Outcome.{AnswersSet, Grows, HasReplyCause, IsAnswered, IsKeptBut, IsKeptBy, IsSetLeft, entry_after}
 use Rattle.mm_writer.specs.Side.{Side, first_state, state_of}
 use Rattle.outside.specs.Faults.{HasRisen}
 use Rattle.report_text.specs.Session.{history_from}
@@ -22,16 +26,20 @@ use Rattle.var_types.specs.declared.reply.Reply.TheVariants.{Set as SetReplied}
 use Rattle.var_types.specs.declared.reply.SetReply.{SetReply}
 use Rattle.var_types.specs.declared.reply.SetReply.TheVariants as set
 use Rattle.var_types.specs.declared.store.Store.TheVariants.{NonVolatile}
-use Rattle.var_types.specs.DeviceErrors.{IsReplyIn, is_device_error}
-use Rattle.var_types.specs.History.{Entry, run}
+use Rattle.var_types.specs.declared.variable.Variable.{Variable}
+use Rattle.var_types.specs.Attributes.{has, non_volatile_bit}
+use Rattle.var_types.specs.DeviceErrors.{HasNonVolatile, IsNonVolatileChange, IsReplyIn, is_device_error}
+use Rattle.var_types.specs.History.{Entry, after, run}
 use Rattle.var_types.specs.Kept.{kept}
 use Rattle.var_types.specs.Laws.{LegalSessionsGrow}
 use Rattle.var_types.specs.Session.{IsAnsweredAfter, IsLegalSession, changes_from, entry_of}
-use Rattle.var_types.specs.State.{State, start}
+use Rattle.var_types.specs.Reading.{set_key}
+use Rattle.var_types.specs.Set.{set_step}
+use Rattle.var_types.specs.State.{State, start, stored_at}
 use Rattle.var_types.specs.Step.{is_change, step}
 use Rattle.var_types.specs.Stores.{Stores, map_in, part}
-use Rattle.varsvc.specs.Running.{HasRun, IsCallLeft, IsFrontLeft, Serves}
-use Rattle.varsvc.specs.Runs.{AreInTurn, all_answered, failures}
+use Rattle.varsvc.specs.Running.{HasRun, IsCallLeft, IsLeftSoFar, IsNewDoubt, Serves}
+use Rattle.varsvc.specs.Runs.{AreInTurn, IsFrontLeft, IsLeftBySet, IsRunLeft, WasFailed, all_answered, failures}
 use Rattle.varsvc.proofs.Processors.{answered-more, answered-next, history_from-more, history_from-next, in_turn-behind, legal-next}
 
 -- ---- the side behind a change
@@ -78,26 +86,83 @@ behind old new processor index call reply a =
 pub length_history : (side : Side) → length (history_in side.log) ≡ length side.log
 length_history side = length-map side.log (λ (change : Change). change.entry)
 
--- an image that keeps the variables of now keeps those after a front of the history, which is the whole
-pub front_now : (side : Side) (image left : List ℕ) → IsKeptBy side left → IsFrontLeft side image left
+-- a side's state is that after the whole of its history
+pub state_is : (side : Side) (first : State) (history : List Entry) → first_state side ≡ first → history_in side.log ≡ history
+    → state_of side ≡ after first history (length history)
 unfolding state_of
-front_now side image left is =
-    let all = take_all (length side.log) (history_in side.log) (omega (arith, length_history side)) in
-    (length side.log, omega arith, is ∙ ap (λ (es : List Entry). part NonVolatile (run (first_state side) es).variables) (sym all))
+state_is side first history opened log =
+    (λ i. run (opened i) (log i))
+    ∙ ap (run first) (sym (take_all (length history) history (let all : length history ≤ length history = omega arith in all)))
 
--- a front of a history is one of a longer history
-front_longer : (old new : Side) (image left : List ℕ) → IsBehind old new → IsFrontLeft old image left → IsFrontLeft new image left
-front_longer old new image left b (k, within, is) =
-    let len = length_history old in
-    let longer = length_history new in
-    let joined = ap (λ (es : List Entry). length es) b.history ∙ length-append (history_in old.log) b.more in
-    let front = ap (take k) b.history ∙ take-append-le k (history_in old.log) b.more (omega (arith, len, within)) in (
-      k,
-      omega (arith, len, longer, joined, within),
-      is
-          ∙ sym (ap (λ (s : State). part NonVolatile (run s (take k (history_in new.log))).variables) b.first
-          ∙ ap (λ (es : List Entry). part NonVolatile (run (first_state old) es).variables) front),
-    )
+-- the state after fewer entries is as it was
+state_longer : (first : State) (history longer more : List Entry) → longer ≡ history ++ more → (k : ℕ) → k ≤ length history
+    → after first longer k ≡ after first history k
+state_longer first history longer more is k within =
+    ap (run first) (ap (take k) is ∙ take-append-le k history more within)
+
+-- an image that keeps the variables of now keeps those after a front of the history, which is the whole
+pub front_now : (side : Side) (first : State) (history : List Entry) → first_state side ≡ first → history_in side.log ≡ history → (left : List ℕ)
+    → IsKeptBy side left → IsFrontLeft first history left
+front_now side first history opened log left is = (
+  length history,
+  omega arith,
+  is ∙ ap (λ (s : State). part NonVolatile s.variables) (state_is side first history opened log),
+)
+
+-- a set that failed among some calls did among more
+failed_longer : (answers longer more : List Answered) → longer ≡ answers ++ more → (named : SetInDoubt) → WasFailed answers named → WasFailed longer named
+failed_longer answers longer more is named failed = record {
+  answer = failed.answer;
+  answered =
+      subst (λ (xs : List Answered). Contains xs failed.answer) (sym is) (Contains-append_left answers more failed.answer failed.answered);
+  call = failed.call;
+  place = failed.place;
+  device = failed.device;
+}
+
+-- what a run may leave a longer one may
+left_longer : (first : State) (history longer more : List Entry) (answers others rest : List Answered) → longer ≡ history ++ more → others ≡ answers ++ rest
+    → (left : List ℕ) → IsRunLeft first history answers left → IsRunLeft first longer others left
+left_longer first history longer more answers others rest is are left =
+    let size : length longer ≡ length history + length more = ap (λ (es : List Entry). length es) is ∙ length-append history more in
+    ⊎_elim
+    (λ front.
+    let within = front.1 in
+    inl
+    (front.0, omega (arith, size, within), front.2 ∙ ap (λ (s : State). part NonVolatile s.variables) (sym (state_longer first history longer more is front.0 within))))
+    (λ by_set.
+    inr
+    (record {
+      set = by_set.set;
+      failed = failed_longer answers others rest are by_set.set by_set.failed;
+      place = let low = by_set.place in omega (arith, size, low);
+      kept =
+          by_set.kept
+          ∙ ap (λ (s : State). part NonVolatile (set_step s by_set.set.call).1.variables)
+          (sym (state_longer first history longer more is by_set.set.place by_set.place));
+    }))
+
+-- what an image may keep of a side whose set in doubt has failed
+but_left : (side : Side) (doubt : Option SetInDoubt) (first : State) (history : List Entry) (answers : List Answered) → first_state side ≡ first → history_in side.log ≡ history
+    → IfSome doubt (IsInDoubt (first_state side) (history_in side.log)) → IfSome doubt (WasFailed answers) → (left : List ℕ)
+    → IsKeptBut side doubt left → IsRunLeft first history answers left
+but_left side None first history answers opened log may failed left is = inl (front_now side first history opened log left is)
+but_left side (Some named) first history answers opened log may failed left is =
+    ⊎_elim (λ (before : IsKeptBy side left). inl (front_now side first history opened log left before))
+    (λ (with_it : kept left ≡ variables_with (first_state side) (history_in side.log) named).
+    inr
+    (record {
+      set = named;
+      failed = failed;
+      place = subst (λ (es : List Entry). named.place ≤ length es) log may.place;
+      kept = with_it ∙ (λ i. variables_with (opened i) (log i) named);
+    }))
+    is
+
+-- what is true of one set in doubt is true of another fact of it
+some_more : (o : Option SetInDoubt) (P Q : SetInDoubt → Type 0) → ((named : SetInDoubt) → P named → Q named) → IfSome o P → IfSome o Q
+some_more None P Q more is = tt
+some_more (Some named) P Q more is = more named is
 
 -- ---- counts
 
@@ -115,96 +180,133 @@ failures-snoc xs a =
     one true = refl
     one false = refl
 
--- a count that has not risen in the end had not before
-not_before : (a b c : ℕ) → ¬ HasRisen a c → b ≤ c → ¬ HasRisen a b
-not_before a b c not within = ⊎_elim (λ less. not (inl (omega (arith, less, within)))) (λ most. not (inr most))
+-- ---- whether a set changes a non-volatile variable
 
--- nor has it in the last step
-not_within : (a b c : ℕ) → ¬ HasRisen a c → a ≤ b → b ≤ c → ¬ HasRisen b c
-not_within a b c not low within =
-    ⊎_elim (λ less. not (inl (omega (arith, less, low))))
-    (λ most. ⊎_elim (λ rose. not (inl (omega (arith, rose, within)))) (λ same. not (inr (omega (arith, most, same)))) (cases_lt a b))
+stored_or_not : (found : Option Variable) → IsSomeAnd found (λ variable. has variable.attributes non_volatile_bit ≡ true)
+    ⊎ (IsSomeAnd found (λ variable. has variable.attributes non_volatile_bit ≡ true) → ⊥)
+stored_or_not None = inr (λ h. h)
+stored_or_not (Some variable) =
+    ⊎_elim inl (λ no. inr (λ h. true≢false (sym h ∙ no))) (cases_Bool (has variable.attributes non_volatile_bit))
 
--- a set is no change where its reply is another
-abbrev IsStill : SetReply → Type 0
-IsStill reply = (reply ≢ set.Ok) × (reply ≢ set.Device)
+change_or_not : (state : State) (call : SetCall) → (set_step state call).0 ≡ set.Ok → IsNonVolatileChange state call ⊎ (IsNonVolatileChange state call → ⊥)
+change_or_not state call changes =
+    ⊎_elim (λ before. inl (record { changes = changes; non_volatile = inl before }))
+    (λ none.
+    ⊎_elim (λ behind. inl (record { changes = changes; non_volatile = inr behind }))
+    (λ nothing. inr (λ change. ⊎_elim none nothing change.non_volatile)) (stored_or_not (stored_at (set_step state call).1 (set_key call))))
+    (stored_or_not (stored_at state (set_key call)))
+
+-- the reply to a set
+set_of : Reply → SetReply
+set_of (SetReplied reply) = reply
+set_of _ = set.Same
+
+replied_ok : (state : State) (call : SetCall) → IsReplyIn state (SetCalled call) (SetReplied set.Ok) → (set_step state call).0 ≡ set.Ok
+unfolding step set_of
+replied_ok state call right = sym (ap set_of (right.same refl refl))
 
 module _ {F : Type 0} {fault_count moment : F → ℕ} {left_since : F → ℕ → List ℕ → Type 0} {holds : F → Option (List ℕ)} where
   -- ---- one call
 
   -- a call that leaves the flash as it is
-  pub serves_quiet : (old new : F × (Option (List ℕ) × Side)) (processor index : ℕ) (call : Call) (reply : Reply)
+  pub serves_quiet : (old new : F × (Option SetInDoubt × Side)) (processor index : ℕ) (call : Call) (reply : Reply)
       → IsAnswered old.1.1 new.1.1 processor index call reply
-      → is_device_error reply ≡ false → new.0 ≡ old.0 → new.1.0 ≡ old.1.0 → (old.1.0 ≡ None → IfSome (holds old.0) (IsKeptBy old.1.1))
+      → is_device_error reply ≡ false → new.0 ≡ old.0 → new.1.0 ≡ old.1.0 → IfSome (holds old.0) (IsKeptBut old.1.1 old.1.0)
+      → IfSome old.1.0 (IsInDoubt (first_state old.1.1) (history_in old.1.1.log))
       → Serves fault_count moment left_since holds old new processor index call reply
-  serves_quiet old new processor index call reply answered calm same doubt kept = record {
+  serves_quiet old new processor index call reply answered calm same doubt keeps may = record {
     answered = answered;
     cause = record {
       done = λ _. ap fault_count same;
       rose = λ h. absurd (true≢false (sym h ∙ calm));
       never_falls = let e = ap fault_count same in omega (arith, e);
     };
-    sure = λ _ none. doubt ∙ none;
-    at_any_moment = λ _ none.
-        subst (λ (f : F). Stays (IsCallLeft old.1.1 new.1.1) moment left_since holds old.0 f) (sym same)
-        (stays_none (IsCallLeft old.1.1 new.1.1) old.0
-        (λ image told. inl (subst (λ (t : Option (List ℕ)). IfSome t (IsKeptBy old.1.1)) told (kept none))));
+    before = may;
+    doubt = inl doubt;
+    at_any_moment =
+        subst (λ (f : F). Stays (IsCallLeft old.1.1 old.1.0 new.1.1 call reply) moment left_since holds old.0 f) (sym same)
+        (stays_none (IsCallLeft old.1.1 old.1.0 new.1.1 call reply) old.0
+        (λ image told. inl (told_at (IsKeptBut old.1.1 old.1.0) (holds old.0) image keeps told)));
   }
 
   -- a read
-  pub serves_read : (e : F × (Option (List ℕ) × Side)) (processor index : ℕ) (call : Call) (reply : Reply) → IsReplyIn (state_of e.1.1) call reply
-      → is_change reply ≡ false → is_device_error reply ≡ false → (e.1.0 ≡ None → IfSome (holds e.0) (IsKeptBy e.1.1))
+  pub serves_read : (e : F × (Option SetInDoubt × Side)) (processor index : ℕ) (call : Call) (reply : Reply) → IsReplyIn (state_of e.1.1) call reply
+      → is_change reply ≡ false → is_device_error reply ≡ false → IfSome (holds e.0) (IsKeptBut e.1.1 e.1.0)
+      → IfSome e.1.0 (IsInDoubt (first_state e.1.1) (history_in e.1.1.log))
       → Serves fault_count moment left_since holds e e processor index call reply
-  serves_read e processor index call reply right still calm kept =
+  serves_read e processor index call reply right still calm keeps may =
       serves_quiet e e processor index call reply
-      (record { right = right; change = λ h. absurd (true≢false (sym h ∙ still)); same = λ _. refl }) calm refl refl kept
+      (record { right = right; change = λ h. absurd (true≢false (sym h ∙ still)); same = λ _. refl }) calm refl refl keeps may
 
-  module _ (old new : F × (Option (List ℕ) × Side)) (processor index : ℕ) (call : SetCall) (kept : old.1.0 ≡ None → IfSome (holds old.0) (IsKeptBy old.1.1)) where
+  module _ (old new : F × (Option SetInDoubt × Side)) (processor index : ℕ) (call : SetCall) (keeps : IfSome (holds old.0) (IsKeptBut old.1.1 old.1.0)) (may : IfSome old.1.0 (IsInDoubt (first_state old.1.1) (history_in old.1.1.log))) where
     -- a set that made its change
-    set_made : IsAnswered old.1.1 new.1.1 processor index (SetCalled call) (SetReplied set.Ok) → (old.1.0 ≡ None → new.1.0 ≡ None)
-        → (old.1.0 ≡ None → Stays (IsSetLeft old.1.1 call) moment left_since holds old.0 new.0)
-        → fault_count new.0 ≡ fault_count old.0 → Serves fault_count moment left_since holds old new processor index (SetCalled call) (SetReplied set.Ok)
+    set_made : AnswersSet moment left_since holds fault_count old new processor index call set.Ok
+        → Serves fault_count moment left_since holds old new processor index (SetCalled call) (SetReplied set.Ok)
     unfolding step
-    set_made answered sure stays same = record {
-      answered = answered;
-      cause = record { done = λ _. same; rose = λ h. absurd (true≢false (sym h)); never_falls = omega (arith, same) };
-      sure = λ _ none. sure none;
-      at_any_moment = λ _ none.
-          stays_weaken (IsSetLeft old.1.1 call) (IsCallLeft old.1.1 new.1.1) old.0 new.0 (stays none)
+    set_made made = record {
+      answered = made.answered;
+      cause = record {
+        done = λ _. made.cause.done (λ e. cc);
+        rose = λ h. absurd (true≢false (sym h));
+        never_falls = made.cause.never_falls;
+      };
+      before = may;
+      doubt =
+          ⊎_elim (λ change. inr (subst (λ (o : Option SetInDoubt). IfSome o (IsNewDoubt old.1.1 (SetCalled call) (SetReplied set.Ok))) (sym (made.ended refl change)) tt))
+          (λ none. inl (made.volatile refl none).1) (change_or_not (state_of old.1.1) call (replied_ok (state_of old.1.1) call made.answered.right));
+      at_any_moment =
+          stays_weaken (IsSetLeft old.1.1 old.1.0 call) (IsCallLeft old.1.1 old.1.0 new.1.1 (SetCalled call) (SetReplied set.Ok)) old.0 new.0 made.at_any_moment
           (λ image left told is.
           ⊎_elim inl
-          (λ behind. inr (behind ∙ ap (λ (s : State). part NonVolatile s.variables) (sym (state_grown old.1.1 new.1.1 _ (answered.change refl))))) is.kept);
+          (λ behind.
+          inr
+          (inl (behind ∙ ap (λ (s : State). part NonVolatile s.variables) (sym (state_grown old.1.1 new.1.1 _ (made.answered.change refl))))))
+          is.kept);
     }
 
-    -- one whose call of the flash failed
-    set_failed : IsAnswered old.1.1 new.1.1 processor index (SetCalled call) (SetReplied set.Device) → HasRisen (fault_count old.0) (fault_count new.0)
-        → fault_count old.0 ≤ fault_count new.0 → Serves fault_count moment left_since holds old new processor index (SetCalled call) (SetReplied set.Device)
-    set_failed answered rose low = record {
-      answered = answered;
-      cause = record { done = λ h. absurd (true≢false h); rose = λ _. rose; never_falls = low };
-      sure = λ h. absurd (true≢false h);
-      at_any_moment = λ h. absurd (true≢false h);
+    -- one whose call of the flash failed, or the heal before it
+    set_failed : AnswersSet moment left_since holds fault_count old new processor index call set.Device
+        → Serves fault_count moment left_since holds old new processor index (SetCalled call) (SetReplied set.Device)
+    set_failed made = record {
+      answered = made.answered;
+      cause = record {
+        done = λ h. absurd (true≢false h);
+        rose = λ _. made.cause.failed refl;
+        never_falls = made.cause.never_falls;
+      };
+      before = may;
+      doubt =
+          ⊎_elim
+          (λ failed.
+          inr
+          (subst (λ (o : Option SetInDoubt). IfSome o (IsNewDoubt old.1.1 (SetCalled call) (SetReplied set.Device))) (sym failed)
+          (record { is = refl; device = refl; place = refl })))
+          (λ unhealed. inl unhealed.same) (made.failed refl);
+      at_any_moment =
+          stays_weaken (IsSetLeft old.1.1 old.1.0 call) (IsCallLeft old.1.1 old.1.0 new.1.1 (SetCalled call) (SetReplied set.Device)) old.0 new.0 made.at_any_moment
+          (λ image left told is.
+          ⊎_elim inl (λ with_it. inr (inr (record { set = call; is = refl; device = refl; kept = with_it }))) is.kept);
     }
+
+    -- one that leaves all as it was
+    set_quiet : (reply : SetReply) → AnswersSet moment left_since holds fault_count old new processor index call reply → is_device_error (SetReplied reply) ≡ false
+        → reply ≢ set.Ok → reply ≢ set.Device → Serves fault_count moment left_since holds old new processor index (SetCalled call) (SetReplied reply)
+    set_quiet reply made calm changed failed =
+        serves_quiet old new processor index (SetCalled call) (SetReplied reply) made.answered calm (made.untouched changed failed)
+        (made.same_doubt changed failed) keeps may
 
     -- any set
-    pub serves_set : (reply : SetReply) → IsAnswered old.1.1 new.1.1 processor index (SetCalled call) (SetReplied reply)
-        → (reply ≢ set.Ok → reply ≢ set.Device → new.0 ≡ old.0) → (reply ≢ set.Ok → reply ≢ set.Device → new.1.0 ≡ old.1.0)
-        → (reply ≡ set.Ok → old.1.0 ≡ None → new.1.0 ≡ None)
-        → (old.1.0 ≡ None → Stays (IsSetLeft old.1.1 call) moment left_since holds old.0 new.0)
-        → HasReplyCause (fault_count old.0) (fault_count new.0) reply
+    pub serves_set : (reply : SetReply) → AnswersSet moment left_since holds fault_count old new processor index call reply
         → Serves fault_count moment left_since holds old new processor index (SetCalled call) (SetReplied reply)
-    serves_set set.Ok answered same doubt sure stays cause = set_made answered (sure refl) stays (cause.done (λ e. cc))
-    serves_set set.Same answered same doubt sure stays cause =
-        serves_quiet old new processor index (SetCalled call) _ answered refl (same (λ e. cc) (λ e. cc)) (doubt (λ e. cc) (λ e. cc)) kept
-    serves_set (set.Refused reason) answered same doubt sure stays cause =
-        serves_quiet old new processor index (SetCalled call) _ answered refl (same (λ e. cc) (λ e. cc)) (doubt (λ e. cc) (λ e. cc)) kept
-    serves_set set.Device answered same doubt sure stays cause = set_failed answered (cause.failed refl) cause.never_falls
-    serves_set set.OutOfMemory answered same doubt sure stays cause =
-        serves_quiet old new processor index (SetCalled call) _ answered refl (same (λ e. cc) (λ e. cc)) (doubt (λ e. cc) (λ e. cc)) kept
+    serves_set set.Ok made = set_made made
+    serves_set set.Same made = set_quiet set.Same made refl (λ e. cc) (λ e. cc)
+    serves_set (set.Refused reason) made = set_quiet (set.Refused reason) made refl (λ e. cc) (λ e. cc)
+    serves_set set.Device made = set_failed made
+    serves_set set.OutOfMemory made = set_quiet set.OutOfMemory made refl (λ e. cc) (λ e. cc)
 
   -- ---- one processor more, which has made no call
 
-  pub run_next : (first : State) (flash : F) (engine : F × (Option (List ℕ) × Side)) (processors : List (List Answered))
+  pub run_next : (first : State) (flash : F) (engine : F × (Option SetInDoubt × Side)) (processors : List (List Answered))
       → HasRun fault_count moment left_since holds first flash engine processors
       → HasRun fault_count moment left_since holds first flash engine (processors ++ [] ∷ [])
   run_next first flash engine processors ran =
@@ -220,13 +322,17 @@ module _ {F : Type 0} {fault_count moment : F → ℕ} {left_since : F → ℕ �
         calm = λ none. ran.calm (sym (ap failures answered) ∙ none);
         failed = subst (λ (xs : List Answered). (fault_count flash + failures xs ≤ fault_count engine.0) ⊎ (2 ^ 64 - 1 ≤ fault_count engine.0)) (sym answered) ran.failed;
         never_falls = ran.never_falls;
-        sure = ran.sure;
-        at_any_moment = ran.at_any_moment;
+        doubt = subst (λ (xs : List Answered). IfSome engine.1.0 (WasFailed xs)) (sym answered) ran.doubt;
+        at_any_moment =
+            stays_weaken (IsLeftSoFar first processors) (IsLeftSoFar first (processors ++ [] ∷ [])) flash engine.0 ran.at_any_moment
+            (λ image left told is.
+            subst (λ (es : List Entry). IsRunLeft first es (all_answered (processors ++ [] ∷ [])) left) (sym history)
+            (subst (λ (xs : List Answered). IsRunLeft first (history_from 0 processors) xs left) (sym answered) is));
       }
 
   -- ---- one call more
 
-  module _ (grows : LegalSessionsGrow) (first : State) (flash : F) (old new : F × (Option (List ℕ) × Side)) (front : List (List Answered)) (xs : List Answered) (processor index place : ℕ) (call : Call) (reply : Reply) (ran : HasRun fault_count moment left_since holds first flash old (front ++ xs ∷ [])) (turn : processor ≡ length front) (at : index ≡ length xs) (made : place ≡ length old.1.1.log) (served : Serves fault_count moment left_since holds old new processor index call reply) where
+  module _ (grows : LegalSessionsGrow) (first : State) (flash : F) (old new : F × (Option SetInDoubt × Side)) (front : List (List Answered)) (xs : List Answered) (processor index place : ℕ) (call : Call) (reply : Reply) (ran : HasRun fault_count moment left_since holds first flash old (front ++ xs ∷ [])) (turn : processor ≡ length front) (at : index ≡ length xs) (made : place ≡ length old.1.1.log) (served : Serves fault_count moment left_since holds old new processor index call reply) where
     abbrev answer : Answered
     answer = record { call = call; place = place; route = Plain; reply = reply }
 
@@ -283,12 +389,6 @@ module _ {F : Type 0} {fault_count moment : F → ℕ} {left_since : F → ℕ �
     is_behind : IsBehind old.1.1 new.1.1
     is_behind = behind old.1.1 new.1.1 processor index call reply served.answered
 
-    -- where no call of the flash has failed in the end, none had before, nor does this reply say so
-    not_failed : ¬ HasRisen (fault_count flash) (fault_count new.0) → is_device_error reply ≡ false
-    not_failed not =
-        ⊎_elim (λ yes. absurd (not_within _ _ _ not ran.never_falls served.cause.never_falls (served.cause.rose yes))) (λ no. no)
-        (cases_Bool (is_device_error reply))
-
     calm_more : failures (all_answered after_it) ≡ 0 → fault_count new.0 ≡ fault_count flash
     calm_more none =
         let count = count_more in
@@ -312,22 +412,82 @@ module _ {F : Type 0} {fault_count moment : F → ℕ} {left_since : F → ℕ �
         (λ most. inr (omega (arith, most, low)))
         ran.failed
 
+    opened_more : first_state new.1.1 ≡ first
+    opened_more = is_behind.first ∙ ran.opened
+
+    logged_more : history_in new.1.1.log ≡ history_from 0 after_it
+    logged_more = log_more ∙ sym history_more
+
+    -- the call, where it is a set that failed, is one of the answered
+    failed_now : (s : SetInDoubt) → call ≡ SetCalled s.call → is_device_error reply ≡ true → s.place ≡ length old.1.1.log → WasFailed (all_answered after_it) s
+    failed_now s is device place = record {
+      answer = answer;
+      answered = subst (λ (ys : List Answered). Contains ys answer) (sym all_more) (Contains-push (all_answered before) answer);
+      call = is;
+      place = made ∙ sym place;
+      device = device;
+    }
+
+    doubt_more : IfSome new.1.0 (WasFailed (all_answered after_it))
+    doubt_more =
+        ⊎_elim
+        (λ same.
+        subst (λ (o : Option SetInDoubt). IfSome o (WasFailed (all_answered after_it))) (sym same)
+        (some_more old.1.0 (WasFailed (all_answered before)) (WasFailed (all_answered after_it))
+        (λ s failed. failed_longer (all_answered before) (all_answered after_it) (answer ∷ []) all_more s failed) ran.doubt))
+        (λ newer.
+        some_more new.1.0 (IsNewDoubt old.1.1 call reply) (WasFailed (all_answered after_it)) (λ s is. failed_now s is.is is.device is.place) newer)
+        served.doubt
+
+    -- the state before the call is that after as many entries as there were
+    state_before : (n : ℕ) → n ≡ length old.1.1.log → after first (history_from 0 after_it) n ≡ state_of old.1.1
+    state_before n is =
+        ap (after first (history_from 0 after_it)) (is ∙ sym so_far)
+        ∙ state_longer first (history_from 0 before) (history_from 0 after_it) _ history_more (length (history_from 0 before)) (omega arith)
+        ∙ sym (state_is old.1.1 first (history_from 0 before) ran.opened ran.log)
+
+    -- what the calls before left, or this one does
+    more_left : (left : List ℕ) → IsRunLeft first (history_from 0 before) (all_answered before) left
+        → IsRunLeft first (history_from 0 after_it) (all_answered after_it) left
+    more_left left is =
+        left_longer first (history_from 0 before) (history_from 0 after_it) _ (all_answered before) (all_answered after_it) (answer ∷ []) history_more all_more left is
+
+    call_left : (image left : List ℕ) → IsCallLeft old.1.1 old.1.0 new.1.1 call reply image left
+        → IsRunLeft first (history_from 0 after_it) (all_answered after_it) left
+    call_left image left is =
+        ⊎_elim
+        (λ but.
+        more_left left
+        (but_left old.1.1 old.1.0 first (history_from 0 before) (all_answered before) ran.opened ran.log served.before ran.doubt left but))
+        (λ others.
+        ⊎_elim (λ now. inl (front_now new.1.1 first (history_from 0 after_it) opened_more logged_more left now))
+        (λ failing.
+        let s : SetInDoubt = record { processor = processor; index = index; place = place; call = failing.set } in
+        let len = ap (λ (es : List Entry). length es) history_more ∙ length-append (history_from 0 before) (changes_from (length front) (length xs) (answer ∷ [])) in
+        let before_it = so_far in
+        inr
+        (record {
+          set = s;
+          failed = failed_now s failing.is failing.device made;
+          place = omega (arith, made, before_it, len);
+          kept =
+              failing.kept ∙ sym (ap (λ (state : State). part NonVolatile (set_step state failing.set).1.variables) (state_before place made));
+        }))
+        others)
+        is
+
     pub run_more : HasRun fault_count moment left_since holds first flash new after_it
     run_more = record {
-      opened = is_behind.first ∙ ran.opened;
-      log = log_more ∙ sym history_more;
+      opened = opened_more;
+      log = logged_more;
       legal = legal_more;
       in_turn = in_turn_more;
       calm = calm_more;
       failed = failed_more;
       never_falls = let a = ran.never_falls in let b = served.cause.never_falls in omega (arith, a, b);
-      sure = λ not. served.sure (not_failed not) (ran.sure (not_before _ _ _ not served.cause.never_falls));
-      at_any_moment = λ not.
-          let before = not_before _ _ _ not served.cause.never_falls in
-          let stays = ran.at_any_moment before in
-          stays_then (IsFrontLeft old.1.1) (IsFrontLeft old.1.1) (IsCallLeft old.1.1 new.1.1) (IsFrontLeft new.1.1) flash old.0 new.0 stays stays.now
-          (served.at_any_moment (not_failed not) (ran.sure before))
-          (λ image left told is. front_longer old.1.1 new.1.1 image left is_behind is)
-          (λ image cells left told now end is.
-          ⊎_elim (λ was. front_longer old.1.1 new.1.1 image left is_behind (front_now old.1.1 image left was)) (front_now new.1.1 image left) is);
+      doubt = doubt_more;
+      at_any_moment =
+          stays_then (IsLeftSoFar first before) (IsLeftSoFar first before) (IsCallLeft old.1.1 old.1.0 new.1.1 call reply) (IsLeftSoFar first after_it) flash old.0 new.0
+          ran.at_any_moment ran.at_any_moment.now served.at_any_moment (λ image left told is. more_left left is)
+          (λ image cells left told now end is. call_left cells left is);
     }

@@ -4,10 +4,12 @@ use Rattle.std.proofs.lemmas.Bool.{cases_Bool}
 use Rattle.std.proofs.lemmas.List.{append-nil}
 use Rattle.std.proofs.lemmas.List.Elements.{All-cons, All-nil}
 use Rattle.std.proofs.lemmas.List.Filters.{length-filter_both, sum_by-filter_both}
+use Rattle.flash_dev.proofs.Calls.{told_at}
 use Rattle.flash_dev.proofs.Moments.{stays_none}
 use Rattle.image_make.specs.Generated.{generated_calls, script_calls}
 use Rattle.mm_writer.proofs.Sides.{means_now}
-use Rattle.mm_writer.specs.Outcome.{IsKeptBy}
+use Rattle.mm_writer.specs.Doubt.{SetInDoubt}
+use Rattle.mm_writer.specs.Outcome.{IsKeptBut, IsKeptBy}
 use Rattle.mm_writer.specs.Side.{IsConsistent, Side, first_state, state_of}
 use Rattle.report_text.specs.declared.sizes.Sizes.{Sizes}
 use Rattle.report_text.specs.Session.{history_from}
@@ -31,8 +33,8 @@ use Rattle.var_types.specs.Stores.{is_in, map_in, part}
 use Rattle.varsvc.proofs.Processors.{no_processor}
 use Rattle.varsvc.proofs.Running.{front_now}
 use Rattle.varsvc.proofs.Stepped.{processors_stepped}
-use Rattle.varsvc.specs.Running.{HasRun, IsFrontLeft}
-use Rattle.varsvc.specs.Runs.{AreInTurn, IsCalmAnswer, all_answered, failures, lacks_one}
+use Rattle.varsvc.specs.Running.{HasRun, IsLeftSoFar}
+use Rattle.varsvc.specs.Runs.{AreInTurn, IsCalmAnswer, WasFailed, all_answered, failures, lacks_one}
 use Rattle.varsvc.specs.Work.{work_summary}
 
 -- ---- stepped calls
@@ -128,7 +130,7 @@ all_sizes side kept lost consistent is_kept is_lost =
 
 module _ {F : Type 0} {fault_count moment : F → ℕ} {left_since : F → ℕ → List ℕ → Type 0} {holds : F → Option (List ℕ)} where
   -- no call has been made
-  pub run_none : (e : F × (Option (List ℕ) × Side)) → e.1.1.log ≡ [] → e.1.0 ≡ None → (e.1.0 ≡ None → IfSome (holds e.0) (IsKeptBy e.1.1))
+  pub run_none : (e : F × (Option SetInDoubt × Side)) → e.1.1.log ≡ [] → e.1.0 ≡ None → IfSome (holds e.0) (IsKeptBut e.1.1 e.1.0)
       → HasRun fault_count moment left_since holds (first_state e.1.1) e.0 e []
   run_none e empty sure kept = record {
     opened = refl;
@@ -138,14 +140,17 @@ module _ {F : Type 0} {fault_count moment : F → ℕ} {left_since : F → ℕ �
     calm = λ _. refl;
     failed = inl (omega arith);
     never_falls = omega arith;
-    sure = λ _. sure;
-    at_any_moment = λ _.
-        stays_none (IsFrontLeft e.1.1) e.0
-        (λ image told. front_now e.1.1 image image (subst (λ (t : Option (List ℕ)). IfSome t (IsKeptBy e.1.1)) told (kept sure)));
+    doubt = subst (λ (d : Option SetInDoubt). IfSome d (WasFailed [])) (sym sure) tt;
+    at_any_moment =
+        stays_none (IsLeftSoFar (first_state e.1.1) []) e.0
+        (λ image told.
+        inl
+        (front_now e.1.1 (first_state e.1.1) [] refl (ap history_in empty) image
+        (told_at (IsKeptBy e.1.1) (holds e.0) image (subst (λ (d : Option SetInDoubt). IfSome (holds e.0) (IsKeptBut e.1.1 d)) sure kept) told)));
   }
 
   -- where the flash never fails, no reply says that it did
-  pub no_failures : (first : State) (flash : F) (e : F × (Option (List ℕ) × Side)) (xs : List (List Answered))
+  pub no_failures : (first : State) (flash : F) (e : F × (Option SetInDoubt × Side)) (xs : List (List Answered))
       → HasRun fault_count moment left_since holds first flash e xs → ((f : F) → fault_count f ≡ 0) → failures (all_answered xs) ≡ 0
   no_failures first flash e xs ran never =
       let before = never flash in

@@ -1,6 +1,7 @@
 -- What an opening of an image comes to.
 use Rattle.std.specs.Prelude.{◌≡◌, ℕ, List, [], Option, None, IfSome}
 use Rattle.flash_dev.specs.Moments.{Stays}
+use Rattle.mm_writer.specs.Doubt.{SetInDoubt}
 use Rattle.mm_writer.specs.Side.{Side, state_of}
 use Rattle.nv_store.specs.declared.load_fault.LoadWhy.{LoadWhy}
 use Rattle.nv_store.specs.declared.load_fault.LoadWhy.TheVariants.{Image, ForeignWork, Device, OutOfMemory}
@@ -13,7 +14,7 @@ use Rattle.varsvc.specs.Runs.{start_on}
 
 -- the writer's side was opened over a flash for so many calls: with the variables that the image keeps and an empty history, and no call failed
 pub record IsOpened {F : Type 0} (fault_count moment : F → ℕ) (left_since : F → ℕ → List ℕ → Type 0) (holds : F → Option (List ℕ)) (flash : F) (calls : ℕ)
-    (engine : F × (Option (List ℕ) × Side)) : Type 0 where
+    (engine : F × (Option SetInDoubt × Side)) : Type 0 where
   pub state : IfSome (holds flash) (λ image. state_of engine.1.1 ≡ start_on image calls)
   pub accepted : IfSome (holds flash) (λ image. refusal_of image ≡ None)
   pub empty : engine.1.1.log ≡ []

@@ -1,23 +1,20 @@
 -- What a run of a script on an image prints and leaves.
-use Rattle.std.specs.Prelude.{◌≡◌, ◌⊎◌, ℕ, ◌+◌, ◌-◌, ◌^◌, ◌≤◌, Bool, false, List, [], ◌∷◌, length, filter, flat_map, map, max, sum_by, Option, Ok, Err, IsErr, IsOk, IfSome, IsSomeAnd, All, if◌then◌else◌}
-use Rattle.std.specs.List.{list_any}
+use Rattle.std.specs.Prelude.{◌≡◌, ◌⊎◌, ℕ, ◌+◌, ◌-◌, ◌^◌, ◌≤◌, Bool, true, false, List, [], ◌∷◌, length, filter, flat_map, map, max, sum_by, Option, Ok, Err, IsErr, IsOk, IfSome, IsSomeAnd, All, if◌then◌else◌}
+use Rattle.std.specs.List.{Contains, list_any}
 use Rattle.ftw_mount.specs.Mount.{content_geometry}
-use Rattle.outside.specs.Faults.{HasRisen}
+use Rattle.mm_writer.specs.Doubt.{IsInDoubt, SetInDoubt, variables_at, variables_with}
 use Rattle.report_text.specs.Fitting.{IsFitting}
 use Rattle.report_text.specs.Session.{history_from, report_of}
 use Rattle.script_text.specs.declared.script_fault.ScriptFault.{ScriptFault}
 use Rattle.script_text.specs.Script.{script_of}
 use Rattle.var_types.specs.declared.answered.Answered.{Answered}
-use Rattle.var_types.specs.declared.key.Key.{Key}
-use Rattle.var_types.specs.declared.store.Store.TheVariants.{NonVolatile}
-use Rattle.var_types.specs.declared.variable.Variable.{Variable}
+use Rattle.var_types.specs.declared.call.Call.TheVariants.{Set}
 use Rattle.var_types.specs.DeviceErrors.{is_device_error}
-use Rattle.var_types.specs.History.{Entry, after}
+use Rattle.var_types.specs.History.{Entry}
 use Rattle.var_types.specs.Kept.{IsSound, kept}
 use Rattle.var_types.specs.Session.{AreStepped, IsLegalSession, calls_of}
 use Rattle.var_types.specs.State.{State, start}
 use Rattle.var_types.specs.Step.{is_change, lacks_memory}
-use Rattle.var_types.specs.Stores.{part}
 use Rattle.varsvc.specs.FaultLines.{script_line}
 use Rattle.varsvc.specs.Told.{Told}
 
@@ -36,24 +33,51 @@ abbrev pub AreInTurn : ℕ → List Answered → Type 0
 AreInTurn made [] = Unit {0}
 AreInTurn made (a ∷ rest) = (a.place ≡ made) × AreInTurn (if is_change a.reply then made + 1 else made) rest
 
--- the non-volatile variables after the first k changes of a history from a state
-abbrev pub variables_at : State → List Entry → ℕ → List (Key × Variable)
-variables_at first history k = part NonVolatile (after first history k).variables
-
 -- how many replies say that the flash failed
 abbrev pub failures : List Answered → ℕ
 failures answered = length (filter (λ a. is_device_error a.reply) answered)
 
--- what a run of a session leaves of the image. No call of the flash having failed, the image keeps the non-volatile variables after the whole
--- history, and a power loss at any moment keeps those after a front of it. There are as many replies at most that say that the flash failed as
--- calls of it did; where there are none, none did (this project's own)
+-- a set is among answered calls, at its place, and its reply says that the flash failed
+pub record WasFailed (answers : List Answered) (set : SetInDoubt) : Type 0 where
+  pub answer : Answered
+  pub answered : Contains answers answer
+  pub call : answer.call ≡ Set set.call
+  pub place : answer.place ≡ set.place
+  pub device : is_device_error answer.reply ≡ true
+
+-- an image keeps the non-volatile variables after a front of a history
+abbrev pub IsFrontLeft : State → List Entry → List ℕ → Type 0
+IsFrontLeft first history left = (k : ℕ) × (k ≤ length history) × (kept left ≡ variables_at first history k)
+
+-- an image keeps those that a set whose reply says that the flash failed would have left at its place in the history
+pub record IsLeftBySet (first : State) (history : List Entry) (answers : List Answered) (left : List ℕ) : Type 0 where
+  pub set : SetInDoubt
+  pub failed : WasFailed answers set
+  pub place : set.place ≤ length history
+  pub kept : kept left ≡ variables_with first history set
+
+-- the same, and no change of the history behind the set changes a non-volatile variable: the image keeps the history's non-volatile variables with
+-- that one set more
+pub record HasSetMore (first : State) (history : List Entry) (answers : List Answered) (left : List ℕ) : Type 0 where
+  pub set : SetInDoubt
+  pub failed : WasFailed answers set
+  pub doubt : IsInDoubt first history set
+  pub kept : kept left ≡ variables_with first history set
+
+-- an image that a run may leave at its end: it keeps the non-volatile variables after the whole history, or those with one set more, which failed
+abbrev pub KeepsRun : State → List Entry → List Answered → List ℕ → Type 0
+KeepsRun first history answers left = (kept left ≡ variables_at first history (length history)) ⊎ HasSetMore first history answers left
+
+-- an image that a power loss within a run may leave: it keeps the non-volatile variables after a front of the history, or those with a set more that
+-- failed
+abbrev pub IsRunLeft : State → List Entry → List Answered → List ℕ → Type 0
+IsRunLeft first history answers left = IsFrontLeft first history left ⊎ IsLeftBySet first history answers left
+
+-- what a run of a session leaves of the image, whatever fails and however often: what it keeps at the end, and what a power loss at any moment keeps.
+-- There are as many replies at most that say that the flash failed as calls of it did; where there are none, none did (this project's own)
 pub record LeavesRun (told : Told) (first : State) (processors : List (List Answered)) : Type 0 where
-  pub keeps : ¬ HasRisen told.faults told.faults_after
-      → IfSome told.image (λ image. IsSomeAnd told.after (λ left.
-      kept left ≡ variables_at first (history_from 0 processors) (length (history_from 0 processors))))
-  pub at_any_moment : ¬ HasRisen told.faults told.faults_after
-      → IfSome told.image (λ image. (left : List ℕ) → told.left left
-      → (k : ℕ) × (k ≤ length (history_from 0 processors)) × (kept left ≡ variables_at first (history_from 0 processors) k))
+  pub keeps : IfSome told.image (λ image. IsSomeAnd told.after (KeepsRun first (history_from 0 processors) (all_answered processors)))
+  pub at_any_moment : IfSome told.image (λ image. (left : List ℕ) → told.left left → IsRunLeft first (history_from 0 processors) (all_answered processors) left)
   pub calm : failures (all_answered processors) ≡ 0 → told.faults_after ≡ told.faults
   pub failed : (told.faults + failures (all_answered processors) ≤ told.faults_after) ⊎ (2 ^ 64 - 1 ≤ told.faults_after)
 

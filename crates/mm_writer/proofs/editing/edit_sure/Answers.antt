@@ -13,6 +13,12 @@ returns-in-Ok-clause-edited g c =
     subst (λ (e : Edit). IsEdited NonVolatile e c.args.store.now.1.0 c.put.new.self.1.0) (sym c.in-Put.is)
     (record { map = c.in-Ok.ensures.put.map; written = c.in-Ok.ensures.written })
 
+pub returns-in-Err-NoRoom-clause-failed : goal.returns-in-Err-NoRoom-clause-failed
+returns-in-Err-NoRoom-clause-failed g c =
+    absurd
+    ((subst (CanEdit NonVolatile c.args.store.now.1.0) c.in-Put.is c.requires.can).room c.in-Err-NoRoom.field-0-0 c.in-Err-NoRoom.field-0-1
+    (c.put.ensures.room c.in-Err-NoRoom.field-0-0 c.in-Err-NoRoom.field-0-1 (c.in-Err-NoRoom.is ∙ ap Err c.in-Err-NoRoom.field-0-is)))
+
 pub returns-in-Err-NoRoom-clause-cause : goal.returns-in-Err-NoRoom-clause-cause
 returns-in-Err-NoRoom-clause-cause g c =
     absurd

@@ -1,6 +1,9 @@
-use Rattle.std.proofs.Common.{sym, subst, ◌∙◌}
+use Rattle.std.proofs.Common.{Option, sym, subst, ◌∙◌}
+use Rattle.mm_writer.specs.Doubt.{SetInDoubt}
+use Rattle.mm_writer.specs.Outcome.{IsSetLeft}
 use Rattle.play_steps.proofs.Done.{opening_stays, set_done, told_all}
 use Rattle.play_steps.specs.EngineWriter.{IsDone}
+use Rattle.play_steps.specs.ListedFlash.{StaysListed}
 use Rattle.var_types.specs.declared.call.Call.TheVariants as calls
 use Rattle.var_types.specs.declared.reply.Reply.TheVariants as replies
 use Rattle.var_types.specs.declared.reply.SetReply.{SetReply}
@@ -22,4 +25,4 @@ returns-clause-done c =
     (λ reply same memory device.
     subst (λ (r : SetReply). IsDone old new c.args.processor c.args.index (calls.Set c.args.call.now) (replies.Set r)) (sym same)
     (set_done old new c.args.processor c.args.index c.args.call.now c.set-reply.result c.requires c.history-history.ensures.whole made.answered made.untouched
-    made.same_doubt made.sure (made.at_any_moment c.requires.sure) (λ e. memory (same ∙ e)) (λ e. device (same ∙ e))))
+    made.same_doubt made.sure (subst (λ (doubt : Option SetInDoubt). StaysListed (IsSetLeft old.1.1 doubt c.args.call.now) old.0 new.0) c.requires.sure made.at_any_moment) (λ e. memory (same ∙ e)) (λ e. device (same ∙ e))))

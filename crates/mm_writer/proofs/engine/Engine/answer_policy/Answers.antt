@@ -1,9 +1,9 @@
 use Rattle.std.proofs.Common.{refl, sym, ap, subst, ◌∙◌}
-use Rattle.mm_writer.proofs.Phases.{answered_phase, entered_side, kept_phase}
+use Rattle.mm_writer.proofs.Phases.{answered_phase, entered_side, engine_phase}
 use Rattle.mm_writer.proofs.Sides.{means_now}
 use Rattle.mm_writer.proofs.Unwritten.{left_by, policy_counted, policy_is, policy_limit, policy_room, policy_unchanged}
 use Rattle.mm_writer.specs.Books.{entered_in}
-use Rattle.mm_writer.specs.Engine.{IsKept, side_by}
+use Rattle.mm_writer.specs.Engine.{IsEngine, side_by}
 use Rattle.mm_writer.specs.Outcome.{IsAnswered, entry_after}
 use Rattle.mm_writer.specs.Side.{Side, state_of}
 use Rattle.var_types.proofs.Steps.{memory_from_change}
@@ -16,9 +16,13 @@ pub invariant_of-self : goal.invariant_of-self
 invariant_of-self g c =
     let e = c.self.inside in
     let side : Side = side_by e.opened.value.1.0 e.store.1.0 e.volatile e.books in
-    (policy_unchanged side e.totals e.policies c.self.invariant c.args.caller.processor c.args.caller.index c.args.call.now c.answer-reply.result
-    c.answer-reply.new.self c.len-made.result c.answer-reply.new.made c.limit-limit.result c.len-made.ensures.len c.limit-limit.ensures
-    (c.answer-reply.ensures.done (state_of side)) (λ h. (c.answer-reply.ensures.memory h).0) (sym c.is_change.ensures ∙ c.if-not-is_change.true)).0
+    record {
+      kept =
+          (policy_unchanged side e.totals e.policies c.self.invariant.kept c.args.caller.processor c.args.caller.index c.args.call.now c.answer-reply.result
+          c.answer-reply.new.self c.len-made.result c.answer-reply.new.made c.limit-limit.result c.len-made.ensures.len c.limit-limit.ensures
+          (c.answer-reply.ensures.done (state_of side)) (λ h. (c.answer-reply.ensures.memory h).0) (sym c.is_change.ensures ∙ c.if-not-is_change.true)).0;
+      doubted = c.self.invariant.doubted;
+    }
 
 pub returns-then-not-is_change-clause-answered : goal.returns-then-not-is_change-clause-answered
 returns-then-not-is_change-clause-answered g c =
@@ -26,7 +30,7 @@ returns-then-not-is_change-clause-answered g c =
     let side : Side = side_by e.opened.value.1.0 e.store.1.0 e.volatile e.books in
     subst (λ v. IsAnswered v.1.1 side c.args.caller.processor c.args.caller.index (PolicyCalled c.args.call.now) (PolicyReplied c.answer-reply.result))
     c.self.view_is
-    (policy_unchanged side e.totals e.policies c.self.invariant c.args.caller.processor c.args.caller.index c.args.call.now c.answer-reply.result
+    (policy_unchanged side e.totals e.policies c.self.invariant.kept c.args.caller.processor c.args.caller.index c.args.call.now c.answer-reply.result
     c.answer-reply.new.self c.len-made.result c.answer-reply.new.made c.limit-limit.result c.len-made.ensures.len c.limit-limit.ensures
     (c.answer-reply.ensures.done (state_of side)) (λ h. (c.answer-reply.ensures.memory h).0) (sym c.is_change.ensures ∙ c.if-not-is_change.true)).1
 
@@ -35,7 +39,7 @@ enter_in-requires g c =
     let e = c.self.inside in
     let side : Side = side_by e.opened.value.1.0 e.store.1.0 e.volatile e.books in
     let changes = sym c.is_change.ensures ∙ c.if-not-is_change.false in
-    policy_room side e.totals e.policies c.self.invariant c.args.call.now c.answer-reply.result c.answer-reply.new.self c.len-made.result
+    policy_room side e.totals e.policies c.self.invariant.kept c.args.call.now c.answer-reply.result c.answer-reply.new.self c.len-made.result
     c.answer-reply.new.made c.limit-limit.result c.len-made.ensures.len c.limit-limit.ensures
     (c.answer-reply.ensures.done (state_of side)
     (memory_from_change (PolicyCalled c.args.call.now) (PolicyReplied c.answer-reply.result) changes))
@@ -57,19 +61,19 @@ invariant_of-self-2 g c =
     ∙ ap (λ (n : Entry). entered_in e.books n e.books.runtime)
     (c.requires
     ∙ ap (λ v. entry_after v.1.1 c.args.caller.processor c.args.caller.index (PolicyCalled call)) (sym c.self.view_is))) in
-    subst (λ (s : Side). IsKept s e.totals after) (sym entered)
-    (kept_phase c.agreement_grows_with_the_ranges.ensures.grows c.agreement_grows_with_the_ranges.ensures.same side e.totals e.policies after
-    c.self.invariant c.args.caller.processor c.args.caller.index (PolicyCalled call) (PolicyReplied reply) e.books.runtime
-    (left_by side e.totals e.policies c.self.invariant call reply after c.len-made.result c.answer-reply.new.made c.limit-limit.result
+    subst (λ (s : Side). IsEngine s e.totals after e.failed e.store.1.1) (sym entered)
+    (engine_phase c.agreement_grows_with_the_ranges.ensures.grows c.agreement_grows_with_the_ranges.ensures.same side e.totals e.policies after
+    c.self.invariant.kept c.args.caller.processor c.args.caller.index (PolicyCalled call) (PolicyReplied reply) e.books.runtime
+    (left_by side e.totals e.policies c.self.invariant.kept call reply after c.len-made.result c.answer-reply.new.made c.limit-limit.result
     c.len-made.ensures.len c.limit-limit.ensures is)
-    (policy_is side e.totals e.policies c.self.invariant call reply after c.len-made.result c.answer-reply.new.made c.limit-limit.result
+    (policy_is side e.totals e.policies c.self.invariant.kept call reply after c.len-made.result c.answer-reply.new.made c.limit-limit.result
     c.len-made.ensures.len c.limit-limit.ensures is)
-    refl (sym (means_now side c.self.invariant.consistent).phase)
-    (policy_counted side e.totals e.policies c.self.invariant call reply after c.len-made.result c.answer-reply.new.made c.limit-limit.result
+    refl (sym (means_now side c.self.invariant.kept.consistent).phase)
+    (policy_counted side e.totals e.policies c.self.invariant.kept call reply after c.len-made.result c.answer-reply.new.made c.limit-limit.result
     c.len-made.ensures.len c.limit-limit.ensures is changes)
-    (policy_limit side e.totals e.policies c.self.invariant call reply after c.len-made.result c.answer-reply.new.made c.limit-limit.result
+    (policy_limit side e.totals e.policies c.self.invariant.kept call reply after c.len-made.result c.answer-reply.new.made c.limit-limit.result
     c.len-made.ensures.len c.limit-limit.ensures is)
-    refl)
+    refl e.failed e.store.1.1 c.self.invariant.doubted)
 
 pub returns-clause-answered : goal.returns-clause-answered
 returns-clause-answered g c =
@@ -91,14 +95,14 @@ returns-clause-answered g c =
     c.self.view_is
     (subst (λ (s : Side). IsAnswered side s c.args.caller.processor c.args.caller.index (PolicyCalled call) (PolicyReplied reply)) (sym entered)
     (answered_phase c.agreement_grows_with_the_ranges.ensures.grows c.agreement_grows_with_the_ranges.ensures.same side e.totals e.policies after
-    c.self.invariant c.args.caller.processor c.args.caller.index (PolicyCalled call) (PolicyReplied reply) e.books.runtime
-    (left_by side e.totals e.policies c.self.invariant call reply after c.len-made.result c.answer-reply.new.made c.limit-limit.result
+    c.self.invariant.kept c.args.caller.processor c.args.caller.index (PolicyCalled call) (PolicyReplied reply) e.books.runtime
+    (left_by side e.totals e.policies c.self.invariant.kept call reply after c.len-made.result c.answer-reply.new.made c.limit-limit.result
     c.len-made.ensures.len c.limit-limit.ensures is)
-    (policy_is side e.totals e.policies c.self.invariant call reply after c.len-made.result c.answer-reply.new.made c.limit-limit.result
+    (policy_is side e.totals e.policies c.self.invariant.kept call reply after c.len-made.result c.answer-reply.new.made c.limit-limit.result
     c.len-made.ensures.len c.limit-limit.ensures is)
-    refl (sym (means_now side c.self.invariant.consistent).phase)
-    (policy_counted side e.totals e.policies c.self.invariant call reply after c.len-made.result c.answer-reply.new.made c.limit-limit.result
+    refl (sym (means_now side c.self.invariant.kept.consistent).phase)
+    (policy_counted side e.totals e.policies c.self.invariant.kept call reply after c.len-made.result c.answer-reply.new.made c.limit-limit.result
     c.len-made.ensures.len c.limit-limit.ensures is changes)
-    (policy_limit side e.totals e.policies c.self.invariant call reply after c.len-made.result c.answer-reply.new.made c.limit-limit.result
+    (policy_limit side e.totals e.policies c.self.invariant.kept call reply after c.len-made.result c.answer-reply.new.made c.limit-limit.result
     c.len-made.ensures.len c.limit-limit.ensures is)
     refl changes refl))

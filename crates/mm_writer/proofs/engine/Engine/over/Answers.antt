@@ -1,7 +1,9 @@
-use Rattle.std.proofs.Common.{sym, ap, subst, ◌∙◌}
+use Rattle.std.proofs.Common.{None, sym, ap, subst, ◌∙◌}
 use Rattle.mm_writer.proofs.Beginnings.{opened_kept, opened_state, side_opened}
-use Rattle.mm_writer.specs.Engine.{IsKept, opened_side}
-use Rattle.mm_writer.specs.Side.{Side, state_of}
+use Rattle.mm_writer.proofs.InDoubt.{none_doubted}
+use Rattle.mm_writer.specs.Doubt.{doubt_by}
+use Rattle.mm_writer.specs.Engine.{IsKept, opened_side, side_by}
+use Rattle.mm_writer.specs.Side.{Side, first_state, state_of}
 use Rattle.set_rules.specs.RoomTotals.{IsTotalOf}
 use Rattle.var_types.specs.declared.store.Store.TheVariants.{NonVolatile}
 use Rattle.var_types.specs.Stores.{map_in}
@@ -15,10 +17,14 @@ invariant_of-result g c =
     side_opened c.of-opened.result.value.1.0 mirror c.args.volatile c.args.trace c.empty.result (ap (λ store. store.1.0) c.of-opened.ensures) c.requires.volatile
     c.requires.trace c.empty.ensures in
     let rooms = subst (λ volume. IsTotalOf totals (map_in NonVolatile volume)) c.mirror.ensures.bytes c.first_totals-totals.ensures in
-    subst (λ (s : Side). IsKept s totals c.new.result) (sym opened)
-    (subst (IsKept (opened_side mirror c.args.trace.limit) totals) (sym c.new.ensures)
-    (opened_kept c.regions_own_their_maps.ensures mirror c.args.trace.limit totals c.maps_hold_what_counts.ensures.ordered
-    c.agreement_grows_with_the_ranges.ensures.same rooms))
+    record {
+      kept =
+          subst (λ (s : Side). IsKept s totals c.new.result) (sym opened)
+          (subst (IsKept (opened_side mirror c.args.trace.limit) totals) (sym c.new.ensures)
+          (opened_kept c.regions_own_their_maps.ensures mirror c.args.trace.limit totals c.maps_hold_what_counts.ensures.ordered
+          c.agreement_grows_with_the_ranges.ensures.same rooms));
+      doubted = none_doubted _ _ c.none.result c.args.store.1.1 c.requires.sure;
+    }
 
 pub returns-clause-state : goal.returns-clause-state
 returns-clause-state g c =

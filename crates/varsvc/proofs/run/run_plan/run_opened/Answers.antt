@@ -15,8 +15,9 @@ returns-clause-run g c = λ input flash opened.
     let e = c.args.engine in
     let xs : List (List Answered) = c.run_queues.new.desk in
     let calls : ℕ = sum_by length c.args.queues.items in
-    let then = c.trace-opened.ensures.kept in
-    let now = c.trace-closed.ensures.kept in
+    let then = c.trace-opened.ensures.keeps in
+    let now = c.trace-closed.ensures.keeps in
+    let may = c.trace-closed.ensures.doubt in
     let closed = c.run_queues.new.engine in
     let ran = c.run_queues.ensures.run (first_state e.1.1) flash (run_first flash calls e opened then) in
     let count : sum_by length xs ≡ calls = count_of xs ∙ ap (λ (cs : List (List Call)). sum_by length cs) c.run_queues.ensures.calls in
@@ -29,11 +30,11 @@ returns-clause-run g c = λ input flash opened.
       };
       calls_are = c.run_queues.ensures.calls;
       first = first_state e.1.1;
-      opened = first_on flash calls e opened then only closed xs ran count now;
-      accepted = accepted_on flash calls e opened then only closed xs ran count now;
+      opened = first_on flash calls e opened then only closed xs ran count now may;
+      accepted = accepted_on flash calls e opened then only closed xs ran count now may;
       legal = ran.legal;
       in_turn = ran.in_turn;
       leaves =
           subst (λ f. LeavesRun (told_of g.F.Flash.holds g.F.Flash.size g.F.Flash.fault_count g.F.Flash.moment g.F.Flash.left_since input flash f) (first_state e.1.1) xs)
-          (sym c.release-image.ensures.flash) (leaves_on flash calls e opened then only closed xs ran count now g.F.Flash.size input);
+          (sym c.release-image.ensures.flash) (leaves_on flash calls e opened then only closed xs ran count now may g.F.Flash.size input);
     }

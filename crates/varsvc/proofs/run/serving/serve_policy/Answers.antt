@@ -5,4 +5,5 @@ use Rattle.varsvc.proofs.run.serving.serve_policy.Goals as goal
 pub returns : goal.returns
 returns g c =
     let made = c.policy.ensures in
-    serves_quiet c.args.engine.now c.policy.new.self c.args.processor c.args.index _ _ made.answered refl made.untouched made.same_doubt c.trace-trace.ensures.kept
+    serves_quiet c.args.engine.now c.policy.new.self c.args.processor c.args.index _ _ made.answered refl made.untouched made.same_doubt c.trace-trace.ensures.keeps
+    c.trace-trace.ensures.doubt

@@ -17,7 +17,7 @@ returns g c = λ number is.
     let new = c.run_calls-answers.new.engine in
     let xs : List Answered = c.run_calls-answers.result.answered in
     let first : State = first_state old.1.1 in
-    let ran = c.run_calls-answers.ensures.run first old.0 [] refl (run_none old c.requires.unchanged c.requires.undoubted c.trace-opened.ensures.kept) in
+    let ran = c.run_calls-answers.ensures.run first old.0 [] refl (run_none old c.requires.unchanged c.requires.undoubted c.trace-opened.ensures.keeps) in
     let none = no_failures first old.0 new (xs ∷ []) ran c.requires.sure in
     on_ok c.summed.result _ _ _ c.summed.ensures.able c.summed.ensures.summary
     (λ (s : Summary) able sum.

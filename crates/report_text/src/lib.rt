@@ -1,4 +1,4 @@
-//! The lines that are printed: their words and parts, the listing of a store's variables, and the page through which texts go to a sink.
+//! What is printed: lines and their parts, reports of sessions, listings, check reports and summaries, and the page before the sink.
 #![tactic(auto)]
 
 mod check;

@@ -1,4 +1,4 @@
-//! The variable services of UEFI: runs scripts of calls on images of the flash, and lists, checks and formats images.
+//! The variable services of UEFI: runs scripts of calls on images of the flash, plays scripts with a schedule, and lists, checks and formats images.
 #![tactic(auto)]
 
 mod asked_plan;

@@ -1,0 +1,3 @@
+pub mod WordCounts
+pub mod Spelled
+pub mod SameNames

@@ -1,0 +1,17 @@
+//! Policies as text, and what of a store's variables breaks them.
+#![tactic(auto)]
+
+mod line_policy;
+mod line_words;
+mod names;
+mod policies;
+mod policy_line;
+mod policy_line_fault;
+mod policy_text_fault;
+mod reading;
+mod values;
+
+pub use policies::Policies;
+pub use policy_line::PolicyLine;
+pub use policy_text_fault::PolicyTextFault;
+pub use reading::read_policies;

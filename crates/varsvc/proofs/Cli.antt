@@ -8,8 +8,8 @@ use Rattle.clap.specs.declared.error.kind.ErrorKind.{ErrorKind}
 use Rattle.clap.specs.declared.error.kind.ErrorKind.TheVariants as kind
 use Rattle.clap.proofs.OnLiterals.{clap_on_literals}
 use Rattle.script_text.proofs.LineLemmas.{missing as missing_place}
-use Rattle.varsvc.specs.declared.verb.Verb.{Verb}
-use Rattle.varsvc.specs.declared.verb.Verb.TheVariants as verb
+use Rattle.varsvc.specs.declared.words.verb.Verb.{Verb}
+use Rattle.varsvc.specs.declared.words.verb.Verb.TheVariants as verb
 use Rattle.varsvc.specs.Cli.{cli, operand_in, operand_word, refusal_of, verb_word}
 use Rattle.varsvc.specs.Order.{IsUsage, is_dashed, one_operand}
 

@@ -5,11 +5,11 @@ use Rattle.ftw_mount.specs.Mount.{content_geometry}
 use Rattle.script_text.specs.Script.{script_of}
 use Rattle.var_types.specs.Kept.{IsSound}
 use Rattle.var_types.specs.Session.{calls_of}
-use Rattle.varsvc.specs.declared.inspection.Inspection.{Inspection}
-use Rattle.varsvc.specs.declared.inspection.Inspection.TheVariants as inspection
-use Rattle.varsvc.specs.declared.order.Order.{Order}
-use Rattle.varsvc.specs.declared.order.Order.TheVariants as order
-use Rattle.varsvc.specs.declared.usage.UsageFault.{UsageFault}
+use Rattle.varsvc.specs.declared.image.inspection.Inspection.{Inspection}
+use Rattle.varsvc.specs.declared.image.inspection.Inspection.TheVariants as inspection
+use Rattle.varsvc.specs.declared.words.order.Order.{Order}
+use Rattle.varsvc.specs.declared.words.order.Order.TheVariants as order
+use Rattle.varsvc.specs.declared.words.usage.UsageFault.{UsageFault}
 use Rattle.varsvc.specs.Images.{Inspects, IsImage, IsNoImage, RefusesList}
 use Rattle.varsvc.specs.Outcome.{Counts, IsCalm, Prints, Row, format_row, inspection_row, play_row, row, run_row, text_row, usage_row}
 use Rattle.varsvc.specs.Plays.{IsNoPlayScript, IsPlayScript, Plays, RefusesPlay}

@@ -1,8 +1,8 @@
 -- From the plan that is made to its status and its text.
 use Rattle.std.proofs.Common.{◌≡◌, ◌≢◌, ℕ, Bool, false, List, [], sym, ◌∙◌, subst}
 use Rattle.var_types.specs.Put.{PutsBy, PutsText, Text}
-use Rattle.varsvc.specs.declared.plan.Plan.{Plan}
-use Rattle.varsvc.specs.declared.plan.Plan.TheVariants.{Print, Stream, InputFault, DeviceFault, NoMemory}
+use Rattle.varsvc.specs.declared.output.plan.Plan.{Plan}
+use Rattle.varsvc.specs.declared.output.plan.Plan.TheVariants.{Print, Stream, InputFault, DeviceFault, NoMemory}
 use Rattle.varsvc.specs.Outcome.{IsText, Row}
 use Rattle.varsvc.specs.Plan.{IsStreamed, PlansLine, PlansText, status_of, text_of}
 use Rattle.varsvc.proofs.PlannedTexts.{text_memory}

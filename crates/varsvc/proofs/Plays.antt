@@ -19,12 +19,12 @@ use Rattle.var_types.specs.declared.answered.Answered.{Answered}
 use Rattle.var_types.specs.History.{Entry}
 use Rattle.var_types.specs.Session.{AreRight}
 use Rattle.var_types.specs.State.{State}
-use Rattle.varsvc.specs.declared.order.Order.{Order}
-use Rattle.varsvc.specs.declared.order.Order.TheVariants as order
-use Rattle.varsvc.specs.declared.plan.Plan.{Plan}
-use Rattle.varsvc.specs.declared.plan.Plan.TheVariants.{NoMemory, Stream}
-use Rattle.varsvc.specs.declared.streamed.Streamed.TheVariants.{Play}
-use Rattle.varsvc.specs.declared.usage.UsageFault.{UsageFault}
+use Rattle.varsvc.specs.declared.words.order.Order.{Order}
+use Rattle.varsvc.specs.declared.words.order.Order.TheVariants as order
+use Rattle.varsvc.specs.declared.output.plan.Plan.{Plan}
+use Rattle.varsvc.specs.declared.output.plan.Plan.TheVariants.{NoMemory, Stream}
+use Rattle.varsvc.specs.declared.output.streamed.Streamed.TheVariants.{Play}
+use Rattle.varsvc.specs.declared.words.usage.UsageFault.{UsageFault}
 use Rattle.varsvc.specs.FaultLines.{play_line}
 use Rattle.varsvc.specs.Input.{IsInput, most_read}
 use Rattle.varsvc.specs.Outcome.{IsText, LeavesImage, play_row, row}

@@ -16,8 +16,8 @@ use Rattle.var_types.specs.declared.work_state.WorkState.{WorkState}
 use Rattle.var_types.specs.declared.work_state.WorkState.TheVariants.{Clean, Pending, Unclean}
 use Rattle.var_types.specs.Kept.{kept, spare, work_area}
 use Rattle.var_types.specs.WorkArea.{is_blank, work_state}
-use Rattle.varsvc.specs.declared.plan.Plan.{Plan}
-use Rattle.varsvc.specs.declared.plan.Plan.TheVariants.{Print, Stream, InputFault, DeviceFault, NoMemory}
+use Rattle.varsvc.specs.declared.output.plan.Plan.{Plan}
+use Rattle.varsvc.specs.declared.output.plan.Plan.TheVariants.{Print, Stream, InputFault, DeviceFault, NoMemory}
 use Rattle.varsvc.specs.FaultLines.{foreign_line, image_line}
 use Rattle.varsvc.specs.Images.{RefusesList}
 use Rattle.varsvc.specs.Opened.{PlansUnopened}

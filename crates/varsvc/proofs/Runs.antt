@@ -21,9 +21,9 @@ use Rattle.var_types.specs.Laws.{RightRepliesFit}
 use Rattle.var_types.specs.Session.{AreAllRight, AreRight}
 use Rattle.var_types.specs.State.{State}
 use Rattle.var_types.specs.Step.{IsOfKind}
-use Rattle.varsvc.specs.declared.plan.Plan.{Plan}
-use Rattle.varsvc.specs.declared.plan.Plan.TheVariants.{Print, Stream, InputFault, DeviceFault, NoMemory}
-use Rattle.varsvc.specs.declared.streamed.Streamed.TheVariants as streamed
+use Rattle.varsvc.specs.declared.output.plan.Plan.{Plan}
+use Rattle.varsvc.specs.declared.output.plan.Plan.TheVariants.{Print, Stream, InputFault, DeviceFault, NoMemory}
+use Rattle.varsvc.specs.declared.output.streamed.Streamed.TheVariants as streamed
 use Rattle.varsvc.specs.Input.{IsInput, most_read}
 use Rattle.varsvc.specs.Outcome.{FlashFails, IsText, run_row}
 use Rattle.varsvc.specs.Plan.{HasPlanValues, IsStreamed, PlansLine, lacks_in, report_status, status_of, text_of}

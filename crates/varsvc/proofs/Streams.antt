@@ -14,13 +14,13 @@ use Rattle.var_types.specs.declared.key.Key.{Key}
 use Rattle.var_types.specs.declared.variable.Variable.{Variable}
 use Rattle.var_types.specs.History.{Entry}
 use Rattle.var_types.specs.Texts.{spaced}
-use Rattle.varsvc.specs.declared.order.Order.{Order}
-use Rattle.varsvc.specs.declared.order.Order.TheVariants as order
-use Rattle.varsvc.specs.declared.plan.Plan.{Plan}
-use Rattle.varsvc.specs.declared.plan.Plan.TheVariants.{Print, Stream, InputFault, DeviceFault, NoMemory}
-use Rattle.varsvc.specs.declared.streamed.Streamed.{Streamed}
-use Rattle.varsvc.specs.declared.streamed.Streamed.TheVariants.{Listing, Play, Report, Script}
-use Rattle.varsvc.specs.declared.usage.UsageFault.{UsageFault}
+use Rattle.varsvc.specs.declared.words.order.Order.{Order}
+use Rattle.varsvc.specs.declared.words.order.Order.TheVariants as order
+use Rattle.varsvc.specs.declared.output.plan.Plan.{Plan}
+use Rattle.varsvc.specs.declared.output.plan.Plan.TheVariants.{Print, Stream, InputFault, DeviceFault, NoMemory}
+use Rattle.varsvc.specs.declared.output.streamed.Streamed.{Streamed}
+use Rattle.varsvc.specs.declared.output.streamed.Streamed.TheVariants.{Listing, Play, Report, Script}
+use Rattle.varsvc.specs.declared.words.usage.UsageFault.{UsageFault}
 use Rattle.varsvc.specs.FaultLines.{memory_line}
 use Rattle.varsvc.specs.Outcome.{Counts, FailsAt, FlashFails, IsPlanned, IsText, LeavesImage, Prints, ReadsInput, Row, row}
 use Rattle.varsvc.specs.Plan.{ComesTo, Gains, HasPlanValues, IsOutcome, IsPrintable, IsStreamed, lacks_in, play_text, report_status, status_of, streamed_status, streamed_text, text_of}

@@ -1,11 +1,11 @@
 -- The text for refused words.
 use Rattle.std.proofs.Common.{◌≡◌, Result, Ok, Err, refl, sym, subst}
-use Rattle.varsvc.specs.declared.order.Order.{Order}
-use Rattle.varsvc.specs.declared.order.Order.TheVariants as order
-use Rattle.varsvc.specs.declared.plan.Plan.{Plan}
-use Rattle.varsvc.specs.declared.plan.Plan.TheVariants.{NoMemory}
-use Rattle.varsvc.specs.declared.usage.UsageFault.{UsageFault}
-use Rattle.varsvc.specs.declared.usage.UsageFault.TheVariants as usage
+use Rattle.varsvc.specs.declared.words.order.Order.{Order}
+use Rattle.varsvc.specs.declared.words.order.Order.TheVariants as order
+use Rattle.varsvc.specs.declared.output.plan.Plan.{Plan}
+use Rattle.varsvc.specs.declared.output.plan.Plan.TheVariants.{NoMemory}
+use Rattle.varsvc.specs.declared.words.usage.UsageFault.{UsageFault}
+use Rattle.varsvc.specs.declared.words.usage.UsageFault.TheVariants as usage
 use Rattle.varsvc.specs.Order.{IsUsage}
 use Rattle.varsvc.specs.Outcome.{IsText, row, usage_row}
 use Rattle.varsvc.specs.Plan.{status_of, text_of}

@@ -12,10 +12,10 @@ use Rattle.var_types.specs.Kept.{IsForeign, IsSound, content, kept, work_area}
 use Rattle.report_text.specs.Check.{check_text, facts_of}
 use Rattle.var_types.specs.declared.work_state.WorkState.{WorkState}
 use Rattle.var_types.specs.WorkArea.{work_state}
-use Rattle.varsvc.specs.declared.inspection.Inspection.{Inspection}
-use Rattle.varsvc.specs.declared.inspection.Inspection.TheVariants as inspection
-use Rattle.varsvc.specs.declared.plan.Plan.{Plan}
-use Rattle.varsvc.specs.declared.plan.Plan.TheVariants.{DeviceFault, Stream}
+use Rattle.varsvc.specs.declared.image.inspection.Inspection.{Inspection}
+use Rattle.varsvc.specs.declared.image.inspection.Inspection.TheVariants as inspection
+use Rattle.varsvc.specs.declared.output.plan.Plan.{Plan}
+use Rattle.varsvc.specs.declared.output.plan.Plan.TheVariants.{DeviceFault, Stream}
 use Rattle.varsvc.specs.FaultLines.{foreign_line, image_line}
 use Rattle.varsvc.specs.Images.{Inspects, IsFaultOf, IsForeignImage, IsRead, inspected}
 use Rattle.varsvc.specs.Outcome.{IsText, inspection_row}

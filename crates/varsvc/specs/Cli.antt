@@ -3,10 +3,10 @@ use Rattle.std.specs.Prelude.{ℕ, true, List, [], codes, Option, option_and_the
 use Rattle.clap.specs.Words.{App, Row, Rule, Text, first_of, new_app, new_rule, with_rule, with_subcommand}
 use Rattle.clap.specs.declared.error.kind.ErrorKind.{ErrorKind}
 use Rattle.clap.specs.declared.error.kind.ErrorKind.TheVariants as kind
-use Rattle.varsvc.specs.declared.usage.UsageFault.{UsageFault}
-use Rattle.varsvc.specs.declared.usage.UsageFault.TheVariants as usage
-use Rattle.varsvc.specs.declared.verb.Verb.{Verb}
-use Rattle.varsvc.specs.declared.verb.Verb.TheVariants as verb
+use Rattle.varsvc.specs.declared.words.usage.UsageFault.{UsageFault}
+use Rattle.varsvc.specs.declared.words.usage.UsageFault.TheVariants as usage
+use Rattle.varsvc.specs.declared.words.verb.Verb.{Verb}
+use Rattle.varsvc.specs.declared.words.verb.Verb.TheVariants as verb
 
 -- the word behind a verb by its name, and a verb with it
 abbrev pub operand_rule : Text → Rule

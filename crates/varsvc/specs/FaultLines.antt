@@ -7,8 +7,8 @@ use Rattle.script_text.specs.declared.script_fault.ScriptFault.{ScriptFault}
 use Rattle.script_text.specs.declared.script_fault.ScriptFault.TheVariants as script
 use Rattle.script_text.specs.declared.line_reason.LineReason.{LineReason}
 use Rattle.script_text.specs.declared.line_reason.LineReason.TheVariants as reason
-use Rattle.varsvc.specs.declared.usage.UsageFault.{UsageFault}
-use Rattle.varsvc.specs.declared.usage.UsageFault.TheVariants as usage
+use Rattle.varsvc.specs.declared.words.usage.UsageFault.{UsageFault}
+use Rattle.varsvc.specs.declared.words.usage.UsageFault.TheVariants as usage
 use Rattle.report_text.specs.declared.word.Word.{Word}
 use Rattle.report_text.specs.declared.word.Word.TheVariants as word
 use Rattle.report_text.specs.Line.{line_text}

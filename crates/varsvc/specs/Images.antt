@@ -10,8 +10,8 @@ use Rattle.var_types.specs.Census.{Census}
 use Rattle.var_types.specs.Kept.{IsForeign, IsSound, content, content_region, kept, spare, work_area}
 use Rattle.var_types.specs.Layout.{image_size}
 use Rattle.var_types.specs.WorkArea.{is_blank, work_state}
-use Rattle.varsvc.specs.declared.inspection.Inspection.{Inspection}
-use Rattle.varsvc.specs.declared.inspection.Inspection.TheVariants as inspection
+use Rattle.varsvc.specs.declared.image.inspection.Inspection.{Inspection}
+use Rattle.varsvc.specs.declared.image.inspection.Inspection.TheVariants as inspection
 use Rattle.varsvc.specs.FaultLines.{foreign_line, image_line}
 
 -- what was read of an image of the right length: which part of it counts, and the bytes of that

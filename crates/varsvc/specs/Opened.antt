@@ -5,8 +5,8 @@ use Rattle.mm_writer.specs.Side.{Side, state_of}
 use Rattle.nv_store.specs.declared.load_fault.LoadWhy.{LoadWhy}
 use Rattle.nv_store.specs.declared.load_fault.LoadWhy.TheVariants.{Image, ForeignWork, Device, OutOfMemory}
 use Rattle.nv_store.specs.Opening.{IsOpeningLeft, refusal_of}
-use Rattle.varsvc.specs.declared.plan.Plan.{Plan}
-use Rattle.varsvc.specs.declared.plan.Plan.TheVariants.{DeviceFault, NoMemory}
+use Rattle.varsvc.specs.declared.output.plan.Plan.{Plan}
+use Rattle.varsvc.specs.declared.output.plan.Plan.TheVariants.{DeviceFault, NoMemory}
 use Rattle.varsvc.specs.FaultLines.{foreign_line, image_line}
 use Rattle.varsvc.specs.Plan.{PlansLine}
 use Rattle.varsvc.specs.Runs.{start_on}

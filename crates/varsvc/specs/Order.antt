@@ -1,11 +1,11 @@
 use Rattle.std.specs.Prelude.{◌≡◌, ℕ, ◌+◌, ◌==◌, Bool, false, List, [], ◌∷◌, codes, position, if◌then◌else◌, map, string_bytes, String, Option, Some, None, Result, Ok, Err, IsOk}
 use Rattle.std.specs.declared.alloc.Global.{Global}
-use Rattle.varsvc.specs.declared.order.Order.{Order}
-use Rattle.varsvc.specs.declared.order.Order.TheVariants as order
-use Rattle.varsvc.specs.declared.usage.UsageFault.{UsageFault}
-use Rattle.varsvc.specs.declared.usage.UsageFault.TheVariants as usage
-use Rattle.varsvc.specs.declared.verb.Verb.{Verb}
-use Rattle.varsvc.specs.declared.verb.Verb.TheVariants as verb
+use Rattle.varsvc.specs.declared.words.order.Order.{Order}
+use Rattle.varsvc.specs.declared.words.order.Order.TheVariants as order
+use Rattle.varsvc.specs.declared.words.usage.UsageFault.{UsageFault}
+use Rattle.varsvc.specs.declared.words.usage.UsageFault.TheVariants as usage
+use Rattle.varsvc.specs.declared.words.verb.Verb.{Verb}
+use Rattle.varsvc.specs.declared.words.verb.Verb.TheVariants as verb
 use Rattle.varsvc.specs.Number.{number_of}
 use lib.Pointwise.{pointwise}
 

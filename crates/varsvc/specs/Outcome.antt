@@ -11,11 +11,11 @@ use Rattle.outside.specs.Written.{AppendsPart}
 use Rattle.report_text.specs.Summary.{summary_line}
 use Rattle.script_text.specs.Script.{script_of}
 use Rattle.var_types.specs.Layout.{image_size}
-use Rattle.varsvc.specs.declared.inspection.Inspection.{Inspection}
-use Rattle.varsvc.specs.declared.inspection.Inspection.TheVariants as inspection
-use Rattle.varsvc.specs.declared.order.Order.{Order}
-use Rattle.varsvc.specs.declared.order.Order.TheVariants as order
-use Rattle.varsvc.specs.declared.usage.UsageFault.{UsageFault}
+use Rattle.varsvc.specs.declared.image.inspection.Inspection.{Inspection}
+use Rattle.varsvc.specs.declared.image.inspection.Inspection.TheVariants as inspection
+use Rattle.varsvc.specs.declared.words.order.Order.{Order}
+use Rattle.varsvc.specs.declared.words.order.Order.TheVariants as order
+use Rattle.varsvc.specs.declared.words.usage.UsageFault.{UsageFault}
 use Rattle.varsvc.specs.FaultLines.{device_line, input_line, memory_line, usage_line}
 use Rattle.varsvc.specs.Input.{TakesAtMost, most_read}
 use Rattle.varsvc.specs.Images.{Formats, Inspects, IsImage, IsNoImage, RefusesFormat, RefusesList}
@@ -55,11 +55,31 @@ pub record Row : Type 1 where
   pub accepted : Type 0
   pub refused : ℕ → Type 0
 
+-- a verb that is given nothing to do: it reads and opens nothing, keeps the image, and has no text; each line of the table says what is its own
+abbrev pub still_row : Row
+still_row = record {
+  output = NoText;
+  usage = NoText;
+  script = NoText;
+  image = NoText;
+  lacking = NoText;
+  untouched = Unit {0};
+  unopened = Unit {0};
+  unprinted = Unit {0};
+  reads = false;
+  opens = false;
+  prints = true;
+  replies = false;
+  done = IsKept;
+  leaves = IsKept;
+  accepted = ⊥;
+  refused = λ _. ⊥;
+}
+
 -- running a script on an image
 abbrev pub run_row : Told → Row
-run_row told = record {
+run_row told = record still_row {
   output = Reports told false;
-  usage = NoText;
   script = RefusesScript told.input;
   image = λ text. IfSome told.input (λ input. IsOk (script_of input)) × RefusesList told.image told.size text;
   lacking = Reports told true;
@@ -68,7 +88,6 @@ run_row told = record {
   unprinted = Runs told;
   reads = true;
   opens = true;
-  prints = true;
   replies = true;
   done = λ _ _. Unit {0};
   leaves = λ _ _. Unit {0};
@@ -78,12 +97,9 @@ run_row told = record {
 
 -- playing a script with a schedule, whatever the image is
 abbrev pub play_row : Option (List ℕ) → Row
-play_row input = record {
+play_row input = record still_row {
   output = Plays input;
-  usage = NoText;
   script = RefusesPlay input;
-  image = NoText;
-  lacking = NoText;
   untouched = Unit {0};
   unopened = Unit {0};
   unprinted = Unit {0};
@@ -99,12 +115,9 @@ play_row input = record {
 
 -- listing or checking an image
 abbrev pub inspection_row : Inspection → Option (List ℕ) → ℕ → Row
-inspection_row what image size = record {
+inspection_row what image size = record still_row {
   output = Inspects what image size;
-  usage = NoText;
-  script = NoText;
   image = RefusesList image size;
-  lacking = NoText;
   untouched = Unit {0};
   unopened = Unit {0};
   unprinted = Unit {0};
@@ -120,12 +133,9 @@ inspection_row what image size = record {
 
 -- formatting an image
 abbrev pub format_row : ℕ → Row
-format_row size = record {
+format_row size = record still_row {
   output = Formats size;
-  usage = NoText;
-  script = NoText;
   image = RefusesFormat size;
-  lacking = NoText;
   untouched = Unit {0};
   unopened = Unit {0};
   unprinted = Unit {0};
@@ -141,12 +151,8 @@ format_row size = record {
 
 -- printing a text, whatever the source and the image are
 abbrev pub text_row : List ℕ → Row
-text_row wanted = record {
+text_row wanted = record still_row {
   output = λ text. text ≡ wanted;
-  usage = NoText;
-  script = NoText;
-  image = NoText;
-  lacking = NoText;
   untouched = Unit {0};
   unopened = Unit {0};
   unprinted = Unit {0};
@@ -162,12 +168,8 @@ text_row wanted = record {
 
 -- words that are refused
 abbrev pub usage_row : UsageFault → Row
-usage_row fault = record {
-  output = NoText;
+usage_row fault = record still_row {
   usage = λ text. text ≡ usage_line fault;
-  script = NoText;
-  image = NoText;
-  lacking = NoText;
   untouched = Unit {0};
   unopened = Unit {0};
   unprinted = Unit {0};

@@ -21,12 +21,12 @@ use Rattle.var_types.specs.Layout.{headers_size}
 use Rattle.var_types.specs.Put.{Text}
 use Rattle.var_types.specs.Record.{Authenticated}
 use Rattle.var_types.specs.Region.{Region, region_map}
-use Rattle.varsvc.specs.declared.inspection.Inspection.{Inspection}
-use Rattle.varsvc.specs.declared.inspection.Inspection.TheVariants as inspection
-use Rattle.varsvc.specs.declared.plan.Plan.{Plan}
-use Rattle.varsvc.specs.declared.plan.Plan.TheVariants.{Print, Stream, InputFault, DeviceFault, NoMemory}
-use Rattle.varsvc.specs.declared.streamed.Streamed.{Streamed}
-use Rattle.varsvc.specs.declared.streamed.Streamed.TheVariants as streamed
+use Rattle.varsvc.specs.declared.image.inspection.Inspection.{Inspection}
+use Rattle.varsvc.specs.declared.image.inspection.Inspection.TheVariants as inspection
+use Rattle.varsvc.specs.declared.output.plan.Plan.{Plan}
+use Rattle.varsvc.specs.declared.output.plan.Plan.TheVariants.{Print, Stream, InputFault, DeviceFault, NoMemory}
+use Rattle.varsvc.specs.declared.output.streamed.Streamed.{Streamed}
+use Rattle.varsvc.specs.declared.output.streamed.Streamed.TheVariants as streamed
 use Rattle.varsvc.specs.FaultLines.{device_line, image_line, input_line, memory_line}
 use Rattle.varsvc.specs.Runs.{lacks_one}
 

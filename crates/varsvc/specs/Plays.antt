@@ -5,9 +5,9 @@ use Rattle.report_text.specs.Fitting.{IsFitting}
 use Rattle.script_text.specs.declared.play_fault.PlayFault.{PlayFault}
 use Rattle.script_text.specs.Schedule.{PlayParts, play_of}
 use Rattle.var_trace.specs.Session.{SessionParts, answers_of}
-use Rattle.varsvc.specs.declared.plan.Plan.{Plan}
-use Rattle.varsvc.specs.declared.plan.Plan.TheVariants.{NoMemory, Stream}
-use Rattle.varsvc.specs.declared.streamed.Streamed.TheVariants.{Play}
+use Rattle.varsvc.specs.declared.output.plan.Plan.{Plan}
+use Rattle.varsvc.specs.declared.output.plan.Plan.TheVariants.{NoMemory, Stream}
+use Rattle.varsvc.specs.declared.output.streamed.Streamed.TheVariants.{Play}
 use Rattle.varsvc.specs.FaultLines.{play_line}
 use Rattle.varsvc.specs.Plan.{lacks_in, play_text}
 

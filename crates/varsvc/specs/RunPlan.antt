@@ -10,10 +10,10 @@ use Rattle.var_types.specs.declared.call.Call.{Call}
 use Rattle.var_types.specs.Kept.{IsSound}
 use Rattle.var_types.specs.Session.{IsLegalSession, calls_of}
 use Rattle.var_types.specs.State.{State}
-use Rattle.varsvc.specs.declared.plan.Plan.{Plan}
-use Rattle.varsvc.specs.declared.plan.Plan.TheVariants.{Print, Stream, InputFault, DeviceFault, NoMemory}
-use Rattle.varsvc.specs.declared.streamed.Streamed.{Streamed}
-use Rattle.varsvc.specs.declared.streamed.Streamed.TheVariants as streamed
+use Rattle.varsvc.specs.declared.output.plan.Plan.{Plan}
+use Rattle.varsvc.specs.declared.output.plan.Plan.TheVariants.{Print, Stream, InputFault, DeviceFault, NoMemory}
+use Rattle.varsvc.specs.declared.output.streamed.Streamed.{Streamed}
+use Rattle.varsvc.specs.declared.output.streamed.Streamed.TheVariants as streamed
 use Rattle.varsvc.specs.Images.{RefusesList}
 use Rattle.varsvc.specs.Runs.{AreInTurn, LeavesRun, LeavesUntouched, LeavesVariables, all_answered, start_on}
 use Rattle.varsvc.specs.Told.{Told}

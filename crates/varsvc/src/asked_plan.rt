@@ -11,16 +11,11 @@ ghost use Rattle.varsvc.specs.Plan.{HasPlanValues, IsStreamed, status_of, text_o
 ghost use Rattle.varsvc.specs.Told.{told_of};
 ghost use Rattle.varsvc.specs.Work.{work_summary};
 
-use crate::image_plan::{plan_format, plan_inspection};
-use crate::inspection::Inspection;
-use crate::order::Order;
-use crate::plan::{Plan, plan_usage};
-use crate::planned::Planned;
-use crate::play_plan::plan_play;
-use crate::run_plan::plan_run;
-use crate::streamed::Streamed;
-use crate::words::read_words;
-use crate::work_plan::plan_work;
+use crate::image::{Inspection, plan_format, plan_inspection};
+use crate::output::{Plan, Planned, Streamed, plan_usage};
+use crate::play::plan_play;
+use crate::run::{plan_run, plan_work};
+use crate::words::{Order, read_words};
 use flash_dev::Flash;
 use outside::Source;
 use std::alloc::Global;

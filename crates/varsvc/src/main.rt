@@ -2,68 +2,30 @@
 #![tactic(auto)]
 
 mod asked_plan;
-mod content;
-mod desk;
-mod fault_lines;
-#[cfg(test)]
-mod hostile_tests;
-mod image_file;
-mod image_name;
-mod image_plan;
-#[cfg(test)]
-mod image_tests;
+mod image;
 mod input;
-mod inspection;
 mod laws;
-mod number;
-#[cfg(test)]
-mod number_tests;
-mod order;
-mod parse;
-mod plan;
-mod planned;
-mod play_plan;
-#[cfg(test)]
-mod play_tests;
-mod print;
+mod output;
+mod play;
 mod program;
-#[cfg(test)]
-mod program_tests;
-mod queue;
-#[cfg(test)]
-mod random;
-mod run_plan;
-#[cfg(test)]
-mod run_tests;
-mod runner;
-mod serving;
-mod streamed;
+mod run;
 #[cfg(test)]
 mod tests;
 mod top;
-mod usage;
-mod verb;
-#[cfg(test)]
-mod word_tests;
 mod words;
-mod work_plan;
 
-pub use image_name::ImageName;
 pub use laws::{
     blank_images_keep_nothing, calls_are_judged, one_text_one_session,
     runs_are_the_one_thread_services,
 };
-pub use order::Order;
+use output::{Plan, print_plan};
 use outside::{StdSink, StdSource};
-use plan::Plan;
-use print::print_plan;
 use program::run_on_files;
 use std::env::Env;
 use std::process::ExitCode;
 use std::{env, io};
 pub use top::{Done, varsvc, varsvc_plain};
-pub use usage::UsageFault;
-pub use words::read_words;
+pub use words::{ImageName, Order, UsageFault, read_words};
 
 // The words behind the program's name. A word that isn't UTF-8 is no word, and then none are handed on.
 fn words_of(rt: &(impl Env + AllocGlobal)) -> io::Result<Vec<String>> {

@@ -1,11 +1,8 @@
 //! The program over files: the words name the file of the image.
-use crate::image_file::make_image_file;
-use crate::order::Order;
-use crate::plan::Plan;
-use crate::print::print_plan;
+use crate::image::make_image_file;
+use crate::output::{Plan, print_plan};
 use crate::top::varsvc;
-use crate::usage::UsageFault;
-use crate::words::read_words;
+use crate::words::{Order, UsageFault, read_words};
 use flash_dev::{FaultPlan, FileFlash, MemFlash, Torn};
 use outside::{Sink, Source};
 use std::alloc::Global;

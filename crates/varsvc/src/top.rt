@@ -6,7 +6,7 @@ ghost use Rattle.varsvc.specs.Outcome.{FailsAt, Performs};
 ghost use Rattle.varsvc.specs.Plan.{status_of, text_of};
 
 use crate::asked_plan::plan_asked;
-use crate::print::print_plan;
+use crate::output::print_plan;
 use flash_dev::Flash;
 use outside::{Sink, Source};
 use std::alloc::Global;
@@ -18,7 +18,7 @@ pub struct Done<F> {
     pub image: Option<F>,
 }
 
-// The words are read once, here; what they ask for is one line of the table of verbs.
+// What the words ask for is one line of the table of verbs.
 fn perform<S: Source, K: Sink, F: Flash>(
     alloc: Global,
     words: &[String],
@@ -55,8 +55,8 @@ pub fn varsvc_plain<S: Source, K: Sink, F: Flash>(
     perform(alloc, words, script, image, out)
 }
 
-/// The whole program: reads the words, and does as they ask: reads a script from its source to its end and runs it on the image with one
-/// processor; or plays a script with a schedule; or lists, checks or formats the image; and prints the outcome to its sink. Statuses: 0 all was done; 2 the words, 3 the script,
+/// The whole program: reads the words, and does as they ask: reads a script from its source to its end and runs it on the image, one
+/// processor after the other; or plays a script with a schedule; or lists, checks or formats the image; or prints what a number stands for; and prints the outcome to its sink. Statuses: 0 all was done; 2 the words, 3 the script,
 /// 4 the image is refused; 5 the sink, 6 the source failed, 7 the flash before anything was run; 8 the call is out of memory, or replies of a
 /// run are. A call of the flash that fails within a run is a reply, and no status.
 pub fn varsvc<S: Source, K: Sink, F: Flash + Send>(

@@ -1,7 +1,7 @@
 use Rattle.std.proofs.Common.{◌≡◌, ◌∙◌, Result, Ok, ap, subst}
-use Rattle.varsvc.specs.declared.order.Order.{Order}
-use Rattle.varsvc.specs.declared.order.Order.TheVariants.{Play}
-use Rattle.varsvc.specs.declared.usage.UsageFault.{UsageFault}
+use Rattle.varsvc.specs.declared.words.order.Order.{Order}
+use Rattle.varsvc.specs.declared.words.order.Order.TheVariants.{Play}
+use Rattle.varsvc.specs.declared.words.usage.UsageFault.{UsageFault}
 use Rattle.varsvc.specs.Order.{GivesOrder, asked}
 use Rattle.varsvc.proofs.Plays.{leaves_same, stays_same}
 use Rattle.varsvc.proofs.Usages.{usage_text}

@@ -1,8 +1,0 @@
-use crate::plan::Plan;
-
-/// What a call of the program is to print, and the image that it was given.
-#[derive(Drop)]
-pub struct Planned<F> {
-    pub plan: Plan,
-    pub image: F,
-}

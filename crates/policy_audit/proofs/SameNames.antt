@@ -25,7 +25,7 @@ both_ways false true f g = g refl
 both_ways false false f g = refl
 
 -- a well-formed name has units
-not_empty : IsNameOfUnits [] → ⊥
+pub not_empty : IsNameOfUnits [] → ⊥
 not_empty is = let h : name_check [] ≡ Ok tt = is.0 in cc
 
 -- names of one list of units are one

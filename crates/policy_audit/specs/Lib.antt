@@ -5,3 +5,4 @@ pub mod Text
 pub mod Written
 pub mod Entries
 pub mod Audit
+pub mod Laws

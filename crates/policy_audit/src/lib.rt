@@ -3,6 +3,7 @@
 
 mod audit;
 mod entries;
+mod laws;
 mod line_policy;
 mod line_words;
 mod names;
@@ -17,6 +18,7 @@ mod writing;
 
 pub use audit::write_audit;
 pub use entries::write_entries;
+pub use laws::{entries_spell_policies, texts_read_back};
 pub use policies::Policies;
 pub use policy_line::PolicyLine;
 pub use policy_text_fault::PolicyTextFault;

@@ -37,6 +37,7 @@ fn add_policy(
     ensures ok { OnOk result (added policies.old.items policy ≡ Ok policies.new.items) }
     ensures names { OnOk result (HoldsNames names.new.keys policies.new.items) }
     ensures few { OnOk result (length policies.new.items ≤ 1024) }
+    ensures spelled { OnOk result (All CanSpell policies.old.items → All CanSpell policies.new.items) }
     ensures err { IfErr result (λ e. IsLineRefusal e (added policies.old.items policy)) }
 {
     if !add_name(alloc, names, &policy)? {
@@ -72,6 +73,7 @@ fn read_line(
     ensures ok { OnOk result (after_line number policies.old.items (line_policy line.now) ≡ Ok policies.new.items) }
     ensures names { OnOk result (HoldsNames names.new.keys policies.new.items) }
     ensures few { OnOk result (length policies.new.items ≤ 1024) }
+    ensures spelled { OnOk result (All CanSpell policies.old.items → All CanSpell policies.new.items) }
     ensures err { IfErr result (λ e. IsTextRefusal e (after_line number policies.old.items (line_policy line.now))) }
 {
     match line_policy(alloc, line) {
@@ -89,6 +91,7 @@ fn read_lines(alloc: Global, text: &[u8]) -> Result<Vec<CountedPolicy>, PolicyTe
     requires { length text.now ≤ most_text_bytes }
     ensures ok { IfOk result (λ policies. policies_from 1 [] (lines text.now) ≡ Ok policies.items) }
     ensures few { IfOk result (λ policies. length policies.items ≤ 1024) }
+    ensures spelled { IfOk result (λ policies. All CanSpell policies.items) }
     ensures err { IfErr result (λ e. IsTextRefusal e (policies_from 1 [] (lines text.now))) }
 {
     let mut policies = Vec::new(alloc);
@@ -111,7 +114,8 @@ fn read_lines(alloc: Global, text: &[u8]) -> Result<Vec<CountedPolicy>, PolicyTe
 /// words are those of scripts; a line has the words `GUID NAME MIN MAX MUST CANT LOCK`.
 #[tactic(auto, unfolding(crate::specs::Text::policies_of))]
 pub fn read_policies(alloc: Global, bytes: &[u8]) -> Result<Policies, PolicyTextFault>
-    ensures { GivesText result (policies_of bytes.now) }
+    ensures policies { GivesText result (policies_of bytes.now) }
+    ensures spelled { IfOk result (λ policies. All CanSpell policies) }
 {
     if bytes.len() > MOST_BYTES {
         return Err(PolicyTextFault::TooLong {

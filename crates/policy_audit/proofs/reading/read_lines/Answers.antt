@@ -1,10 +1,12 @@
-use Rattle.std.proofs.Common.{◌≡◌, ℕ, ◌+◌, ◌≤◌, false, List, [], ◌∷◌, length, Err, arith, refl, sym, ap, subst, ◌∙◌}
+use Rattle.std.proofs.Common.{◌≡◌, ℕ, ◌+◌, ◌≤◌, false, List, [], ◌∷◌, All, length, Err, arith, refl, sym, ap, subst, ◌∙◌}
+use Rattle.std.proofs.lemmas.List.Elements.{All-nil}
 use Rattle.std.specs.Str.Lines.{lines}
 use Rattle.script_text.specs.FirstLine.{HasBadLine}
 use Rattle.script_text.specs.Lines.{is_comment, is_text}
 use Rattle.script_text.specs.Words.{◌>>=◌}
 use Rattle.var_types.specs.declared.key.Key.{Key}
 use Rattle.var_types.specs.declared.policy.Policy.{Policy}
+use Rattle.var_types.specs.PolicyEntry.{CanSpell}
 use Rattle.policy_audit.specs.declared.policy_line.PolicyLine.TheVariants.{Text}
 use Rattle.policy_audit.specs.declared.policy_text_fault.PolicyTextFault.TheVariants.{Line}
 use Rattle.policy_audit.specs.Names.{HoldsNames}
@@ -32,6 +34,7 @@ lines-init c =
       one_text = ap (λ (ps : List Policy). policies_from 1 ps (lines c.args.text.now)) none;
       names = subst (λ (ps : List Policy). HoldsNames c.new-names.result.keys ps) (sym none)
           (subst (λ (ks : List Key). HoldsNames ks []) (sym c.new-names.ensures.empty) holds_none);
+      spelled = subst (λ (ps : List Policy). All CanSpell ps) (sym none) (All-nil CanSpell);
       few = subst (λ (ps : List Policy). length ps ≤ 1024) (sym none) (omega arith);
       bounded = omega (arith, c.requires);
     }

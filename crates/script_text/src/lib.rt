@@ -30,7 +30,11 @@ mod words;
 
 pub use call_text::write_call;
 pub use laws::calls_read_back;
+pub use line_fault::LineFault;
 pub use line_reason::LineReason;
+pub use lines::{first_word, is_comment, is_wordless, text_line};
+pub use names::name_of;
+pub use numbers::number_of;
 pub use play::read_play;
 pub use play_fault::PlayFault;
 pub use play_script::PlayScript;
@@ -41,3 +45,4 @@ pub use script::{Script, read_script};
 pub use script_fault::ScriptFault;
 pub use turn::Turn;
 pub use verb::Verb;
+pub use words::{guid_word, three_words};

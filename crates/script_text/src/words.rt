@@ -45,8 +45,9 @@ fn verb_of(word: &[u8]) -> Result<Verb, LineReason>
     Err(LineReason::Verb)
 }
 
+/// The GUID of a word.
 #[tactic(auto, unfolding(crate::specs::Words::guid_word))]
-fn guid_word(word: &[u8]) -> Result<Guid, LineReason>
+pub fn guid_word(word: &[u8]) -> Result<Guid, LineReason>
     ensures { result ≡ guid_word word.now }
 {
     match Guid::read_bytes(word) {
@@ -114,8 +115,8 @@ fn set_call(
     }))
 }
 
-// The words of a line, if they are three.
-fn three_words(line: &[u8]) -> Option<(&[u8], &[u8], &[u8])>
+/// The words of a line, if they are three.
+pub fn three_words(line: &[u8]) -> Option<(&[u8], &[u8], &[u8])>
     ensures { MatchOption result (length (words_of line.now) ≢ 3) (λ x. words_of line.now ≡ x.0.now ∷ x.1.now ∷ x.2.now ∷ []) }
 {
     let (first, rest) = first_word(line)?;

@@ -1,0 +1,4 @@
+pub mod WordCounts
+pub mod Spelled
+pub mod SameNames
+pub mod TextsBack

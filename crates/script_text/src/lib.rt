@@ -1,4 +1,4 @@
-//! The text of a script: from its lines to calls, and from a call to its text.
+//! The text of a script: from its lines to calls and a schedule, and from a call to its text.
 #![tactic(auto)]
 
 mod call_lines;

@@ -64,19 +64,23 @@ pub(crate) fn begin_whole(
     Ok(begin(rt, alloc, flash_of(alloc, image, &[], None, Torn::Before)?))
 }
 
-pub(crate) fn make(
-    engine: &mut Engine<MemFlash>,
-    alloc: Global,
-    set: Set,
-) -> Result<SetReply, Fail> {
+pub(crate) fn call_of(alloc: Global, set: Set) -> Result<SetCall, Fail> {
     let data = vec![in alloc; set.3; usize::from(set.2)]?;
-    let call = SetCall {
+    Ok(SetCall {
         guid: VENDOR,
         name: Units::new(alloc, &[set.0])?,
         attributes: set.1,
         bytes: Bytes::copy(alloc, &data)?,
         verdict: Verdict::Good,
-    };
+    })
+}
+
+pub(crate) fn make(
+    engine: &mut Engine<MemFlash>,
+    alloc: Global,
+    set: Set,
+) -> Result<SetReply, Fail> {
+    let call = call_of(alloc, set)?;
     Ok(engine.set(0, 0, &call))
 }
 

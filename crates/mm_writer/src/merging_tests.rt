@@ -2,15 +2,12 @@ ghost use Rattle.std.specs.Prelude.{IfOk};
 ghost use Rattle.mm_writer.specs.Behind.{IsBehind};
 
 use crate::Engine;
-use crate::flash_tests::{A, B, KEPT, Set, begin_whole, flash_of, image};
+use crate::flash_tests::{A, B, KEPT, Set, call_of, flash_of, image};
 use flash_dev::{MemFlash, Torn};
 use runtime_cache::Cache;
 use std::alloc::Global;
 use std::process::Abort;
 use std::test::Fail;
-use var_types::{Bytes, Guid, SetCall, Units, Verdict};
-
-const VENDOR: Guid = Guid { bytes: [7; 16] };
 
 const LOST: u32 = 6;
 
@@ -42,14 +39,7 @@ fn make(
     requires { IsBehind engine.old.1.1 cache.old }
     ensures { IsBehind engine.new.1.1 cache.new }
 {
-    let data = vec![in alloc; set.3; usize::from(set.2)]?;
-    let call = SetCall {
-        guid: VENDOR,
-        name: Units::new(alloc, &[set.0])?,
-        attributes: set.1,
-        bytes: Bytes::copy(alloc, &data)?,
-        verdict: Verdict::Good,
-    };
+    let call = call_of(alloc, set)?;
     engine.set(0, 0, &call);
     Ok(())
 }

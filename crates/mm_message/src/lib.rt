@@ -1,0 +1,14 @@
+//! Request messages of a client, read from a stream in pieces, and written.
+#![tactic(auto)]
+
+mod bodies;
+mod front;
+mod inbox;
+mod message_fault;
+mod set_body;
+mod taken;
+
+pub use inbox::Inbox;
+pub use message_fault::MessageFault;
+pub use taken::Taken;
+pub use var_types::{Call, OutOfMemory};

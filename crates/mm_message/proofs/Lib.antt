@@ -1,2 +1,6 @@
 pub mod Parts
 pub mod Names
+pub mod Numbers
+pub mod Spelled
+pub mod Read
+pub mod Streams

@@ -4,11 +4,13 @@
 mod bodies;
 mod front;
 mod inbox;
+mod laws;
 mod message_fault;
 mod set_body;
 mod taken;
 
 pub use inbox::Inbox;
+pub use laws::{inbox_keeps_all, messages_have_one_spelling, the_longest_list_is_one};
 pub use message_fault::MessageFault;
 pub use taken::Taken;
 pub use var_types::{Call, OutOfMemory};

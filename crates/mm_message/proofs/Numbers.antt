@@ -108,3 +108,7 @@ pub length-units : (xs : List ℕ) → length xs % 2 ≡ 0 → 2 * length (units
 length-units [] even = refl
 length-units (low ∷ []) even = absurd (omega (arith, even))
 length-units (low ∷ high ∷ rest) even = let more = length-units rest (omega (arith, even)) in omega (arith, more)
+
+-- the same of a name of a call
+pub length_name : (units : List ℕ) → length (name_bytes units) ≡ 2 * length units
+length_name units = length-name_bytes units

@@ -9,6 +9,8 @@ mod message_fault;
 mod set_body;
 mod sizes;
 mod taken;
+#[cfg(test)]
+mod tests;
 mod writing;
 
 pub use inbox::Inbox;

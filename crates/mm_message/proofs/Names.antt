@@ -1,5 +1,5 @@
 -- Names as bytes.
-use Rattle.std.proofs.Common.{ℕ, zero, suc, ◌+◌, ◌*◌, ◌≤◌, List, [], ◌∷◌, length, arith}
+use Rattle.std.proofs.Common.{ℕ, zero, suc, ◌*◌, ◌≤◌, List, [], ◌∷◌, length, arith}
 use Rattle.var_types.specs.Live.{units_in}
 
 -- there are no more units than pairs of bytes

@@ -1,5 +1,5 @@
 -- The spelling of a message is read as the message.
-use Rattle.std.proofs.Common.{◌≡◌, ℕ, zero, suc, ◌+◌, ◌*◌, ◌%◌, ◌<◌, ◌≤◌, Bool, true, false, List, [], ◌∷◌, ◌++◌, length, take, drop, get_or, Option, Some, None, refl, sym, ap, ◌∙◌, arith, length-append}
+use Rattle.std.proofs.Common.{◌≡◌, ℕ, ◌+◌, ◌*◌, ◌%◌, ◌<◌, ◌≤◌, Bool, true, false, List, [], ◌∷◌, ◌++◌, length, take, drop, get_or, Some, None, refl, sym, ap, ◌∙◌, arith, length-append}
 use Rattle.std.proofs.lemmas.Bool.{and_from, eq-eqb, le-leb, le-ltb}
 use Rattle.std.proofs.lemmas.List.{drop-drop, drop_at, get_or-drop, take_at}
 use Rattle.std.proofs.lemmas.List.Elements.{recursion_from_All}
@@ -7,7 +7,6 @@ use Rattle.std.specs.Prelude.{◌==◌, ◌&&◌, ◌||◌, if◌then◌else◌,
 use Rattle.byteorder.specs.Endian.{little_bytes, little_number}
 use Rattle.byteorder.specs.Numbers.{little_number-reads_back}
 use Rattle.mm_message.specs.declared.message_fault.MessageFault.TheVariants.{Kind, Length, Processor}
-use Rattle.mm_message.specs.declared.taken.Taken.{Taken}
 use Rattle.mm_message.specs.declared.taken.Taken.TheVariants.{Fault, More, Request}
 use Rattle.mm_message.specs.Messages.{call_in, formed, get_call, get_in, is_find, is_missized, is_name, is_set, left_by, message_in, next_call, next_in, other_in, place_in, set_call, set_in, set_units, size_in, taken_in, verdict_of}
 use Rattle.mm_message.specs.Spellings.{Fits, FitsCall, FitsFind, FitsSet, body_of, find_body, name_bytes, set_body, size_of, spelling, verdict_byte}

@@ -1,12 +1,12 @@
 -- What is read of bytes has these bytes as its spelling, and fits.
-use Rattle.std.proofs.Common.{◌≡◌, ℕ, zero, suc, ◌+◌, ◌*◌, ◌%◌, ◌<◌, ◌≤◌, Bool, true, false, cond, List, [], ◌∷◌, ◌++◌, length, take, drop, Option, Some, None, refl, sym, ap, ◌∙◌, subst, arith, append_assoc}
+use Rattle.std.proofs.Common.{◌≡◌, ℕ, zero, suc, ◌+◌, ◌*◌, ◌%◌, ◌<◌, ◌≤◌, Bool, true, false, List, [], ◌∷◌, ◌++◌, length, take, drop, Option, Some, None, refl, sym, ap, ◌∙◌, subst, arith, append_assoc}
 use Rattle.std.proofs.lemmas.Bool.{and_parts, eqb-true, leb-true, ltb-false, or_parts}
 use Rattle.std.proofs.lemmas.List.{drop-drop, get_or-drop, length-drop, length-take-le, take-append-drop, take_all}
 use Rattle.std.proofs.lemmas.List.Elements.{All-from_recursion}
-use Rattle.std.specs.Prelude.{◌==◌, ◌&&◌, ◌||◌, if◌then◌else◌, nat_le, nat_lt, slice_index}
+use Rattle.std.specs.Prelude.{◌==◌, ◌&&◌, if◌then◌else◌, nat_le, nat_lt, slice_index}
 use Rattle.byteorder.specs.Endian.{little_bytes, little_number}
 use Rattle.mm_message.specs.declared.message_fault.MessageFault.{MessageFault}
-use Rattle.mm_message.specs.declared.message_fault.MessageFault.TheVariants.{Form, Kind, Length, Processor}
+use Rattle.mm_message.specs.declared.message_fault.MessageFault.TheVariants.{Kind, Length, Processor}
 use Rattle.mm_message.specs.declared.taken.Taken.{Taken}
 use Rattle.mm_message.specs.declared.taken.Taken.TheVariants.{Fault, More, Request}
 use Rattle.mm_message.specs.Messages.{alone, call_in, formed, get_call, get_in, is_find, is_missized, is_name, is_set, message_in, next_call, next_in, other_in, place_in, set_call, set_in, set_units, size_in, taken_in, verdict_of}

@@ -1,10 +1,9 @@
 -- Streams of messages.
-use Rattle.std.proofs.Common.{◌≡◌, ◌⊎◌, ℕ, zero, suc, ◌+◌, ◌<◌, ◌≤◌, Bool, true, false, List, [], ◌∷◌, ◌++◌, length, drop, refl, sym, ap, ◌∙◌, arith, append_assoc, inl, inr}
+use Rattle.std.proofs.Common.{◌≡◌, ◌⊎◌, ℕ, zero, suc, ◌+◌, ◌<◌, ◌≤◌, true, false, List, [], ◌∷◌, ◌++◌, length, drop, refl, sym, ap, ◌∙◌, arith, append_assoc, inl, inr}
 use Rattle.std.proofs.lemmas.List.{append-nil}
 use Rattle.std.proofs.lemmas.List.Elements.{recursion_from_All}
-use Rattle.mm_message.specs.declared.taken.Taken.{Taken}
 use Rattle.mm_message.specs.declared.taken.Taken.TheVariants.{Fault, More, OutOfMemory, Request}
-use Rattle.mm_message.specs.Messages.{is_request, left_by, size_in, taken_in}
+use Rattle.mm_message.specs.Messages.{is_request, size_in, taken_in}
 use Rattle.mm_message.specs.Spellings.{Fits, spelling}
 use Rattle.mm_message.specs.Streams.{Act, Acts, AllFit, IsLongest, Message, all_fed, all_taken, spellings}
 use Rattle.mm_message.specs.Streams.Act.{fed, took}

@@ -1,6 +1,6 @@
 -- Request messages: which bytes are which call (this project's own format).
 use Rattle.byteorder.specs.Endian.{little_number}
-use Rattle.std.specs.Prelude.{◌≡◌, ℕ, ◌+◌, ◌-◌, ◌*◌, ◌%◌, ◌==◌, ◌&&◌, ◌||◌, Bool, true, false, List, length, take, drop, nat_le, nat_lt, if◌then◌else◌, Option, Some, None, Result, Ok, Err, slice_index}
+use Rattle.std.specs.Prelude.{◌≡◌, ℕ, ◌+◌, ◌*◌, ◌%◌, ◌==◌, ◌&&◌, ◌||◌, Bool, true, false, List, length, take, drop, nat_le, nat_lt, if◌then◌else◌, Option, Some, None, Result, Ok, Err, slice_index}
 use Rattle.mm_message.specs.declared.message_fault.MessageFault.{MessageFault}
 use Rattle.mm_message.specs.declared.message_fault.MessageFault.TheVariants.{Length, Processor, Kind, Form, Cut}
 use Rattle.mm_message.specs.declared.taken.Taken.{Taken}

@@ -1,5 +1,5 @@
 -- Streams of request messages, and what reading and writing them says of any bytes and of every message.
-use Rattle.std.specs.Prelude.{◌≡◌, ◌⊎◌, ℕ, ◌≤◌, Bool, false, List, [], ◌∷◌, ◌++◌, length}
+use Rattle.std.specs.Prelude.{◌≡◌, ◌⊎◌, ℕ, ◌≤◌, false, List, [], ◌∷◌, ◌++◌, length}
 use Rattle.mm_message.specs.declared.taken.Taken.{Taken}
 use Rattle.mm_message.specs.declared.taken.Taken.TheVariants.{Request, More, Fault, OutOfMemory}
 use Rattle.mm_message.specs.Messages.{Takes, is_request, left_by, taken_in}

@@ -1,10 +1,10 @@
 -- A cache that takes what the pending ranges cover has the stores of the writer's side, and nothing is pending then.
-use Rattle.std.proofs.Common.{◌≡◌, ⊎_elim, ℕ, ◌≤◌, List, [], ◌∷◌, length, Option, refl, sym, ap, subst, ◌∙◌, arith, length-append}
+use Rattle.std.proofs.Common.{◌≡◌, ⊎_elim, ℕ, List, [], ◌∷◌, length, Option, sym, ap, subst, ◌∙◌, arith, length-append}
 use Rattle.std.proofs.lemmas.Bool.{cases_Bool}
 use Rattle.mm_writer.specs.Behind.{IsBehind, merged_side}
 use Rattle.mm_writer.specs.declared.books.Books.{Books}
 use Rattle.mm_writer.specs.Doubt.{SetInDoubt}
-use Rattle.mm_writer.specs.Engine.{IsEngine, IsKept, opened_side, opened_stores, side_by}
+use Rattle.mm_writer.specs.Engine.{IsEngine, opened_side, opened_stores, side_by}
 use Rattle.mm_writer.specs.Outcome.{IsAnswered, entry_after}
 use Rattle.mm_writer.specs.Side.{IsConsistent, Side, first_state, state_of}
 use Rattle.pending_range.specs.declared.ranges.Ranges.{Ranges}

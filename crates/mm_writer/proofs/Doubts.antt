@@ -1,5 +1,5 @@
 -- What a heal and an edit of the non-volatile store leave of the flash.
-use Rattle.std.proofs.Common.{◌≡◌, ◌⊎◌, inl, inr, ⊎_elim, ℕ, List, take, Option, Some, None, IfSome, refl, sym, ap, subst, ◌∙◌, true≢false}
+use Rattle.std.proofs.Common.{◌≡◌, inl, inr, ⊎_elim, ℕ, List, take, Option, Some, None, IfSome, refl, sym, ap, subst, ◌∙◌, true≢false}
 use Rattle.std.specs.Prelude.{IsSome, unwrap_or}
 use Rattle.flash_dev.proofs.Calls.{told_at}
 use Rattle.flash_dev.proofs.Moments.{stays_then, stays_weaken}

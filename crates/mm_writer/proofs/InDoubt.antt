@@ -1,5 +1,5 @@
 -- The set in doubt, by name: over a history that grows, after a set that failed, and in what the flash keeps.
-use Rattle.std.proofs.Common.{◌≡◌, ◌≢◌, ◌⊎◌, true, false, true≢false, inl, inr, ⊎_elim, ℕ, ◌+◌, ◌≤◌, List, [], ◌∷◌, ◌++◌, length, take, Option, Some, None, IfSome, refl, sym, ap, subst, ◌∙◌, arith, length-append}
+use Rattle.std.proofs.Common.{◌≡◌, ◌≢◌, false, true≢false, inl, inr, ⊎_elim, ℕ, ◌+◌, ◌≤◌, List, [], ◌∷◌, length, Option, Some, None, IfSome, refl, sym, ap, subst, ◌∙◌, arith, length-append}
 use Rattle.std.proofs.lemmas.List.{length-map, take_all}
 use Rattle.std.specs.Prelude.{IsSome}
 use Rattle.flash_dev.proofs.Calls.{told_at}
@@ -9,7 +9,7 @@ use Rattle.mm_writer.proofs.Consistent.{after_all, after_grown, below_or_last}
 use Rattle.mm_writer.proofs.Failing.{is_change_of_one, part_left}
 use Rattle.mm_writer.proofs.Sides.{means_now}
 use Rattle.mm_writer.specs.declared.edit.Edit.{Edit}
-use Rattle.mm_writer.specs.Doubt.{IsInDoubt, SetInDoubt, doubt_by, variables_at, variables_with}
+use Rattle.mm_writer.specs.Doubt.{IsInDoubt, SetInDoubt, doubt_by, variables_at}
 use Rattle.mm_writer.specs.Edit.{MayEdit, edit_key, edited}
 use Rattle.mm_writer.specs.Editing.{IsEditLeft, IsHeldBut, IsStillHeld, IsStillInDoubt}
 use Rattle.mm_writer.specs.Engine.{AreDoubted, IsDoubted}

@@ -1,9 +1,8 @@
-use Rattle.std.proofs.Common.{None, sym, ap, subst, ◌∙◌}
+use Rattle.std.proofs.Common.{sym, ap, subst, ◌∙◌}
 use Rattle.mm_writer.proofs.Beginnings.{opened_kept, opened_state, side_opened}
 use Rattle.mm_writer.proofs.InDoubt.{none_doubted}
-use Rattle.mm_writer.specs.Doubt.{doubt_by}
-use Rattle.mm_writer.specs.Engine.{IsKept, opened_side, side_by}
-use Rattle.mm_writer.specs.Side.{Side, first_state, state_of}
+use Rattle.mm_writer.specs.Engine.{IsKept, opened_side}
+use Rattle.mm_writer.specs.Side.{Side, state_of}
 use Rattle.set_rules.specs.RoomTotals.{IsTotalOf}
 use Rattle.var_types.specs.declared.store.Store.TheVariants.{NonVolatile}
 use Rattle.var_types.specs.Stores.{map_in}

@@ -5,4 +5,5 @@ pub mod Text
 pub mod Written
 pub mod Entries
 pub mod Audit
+pub mod Refusal
 pub mod Laws

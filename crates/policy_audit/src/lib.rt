@@ -12,6 +12,9 @@ mod policy_line;
 mod policy_line_fault;
 mod policy_text_fault;
 mod reading;
+mod refusal;
+#[cfg(test)]
+mod tests;
 mod values;
 mod violation;
 mod writing;
@@ -23,5 +26,6 @@ pub use policies::Policies;
 pub use policy_line::PolicyLine;
 pub use policy_text_fault::PolicyTextFault;
 pub use reading::read_policies;
+pub use refusal::write_refusal;
 pub use violation::Violation;
 pub use writing::{write_policies, write_policy_line};

@@ -260,26 +260,42 @@ fn a_length_is_told_once_it_is_there(rt: HostRuntime) -> Result<(), Fail> {
     Ok(())
 }
 
-#[test]
-fn the_longest_message_fills_an_inbox(rt: HostRuntime) -> Result<(), Fail> {
-    let alloc = rt.alloc();
-    let mut stream = message_of(alloc, 3, &vec![in alloc; 5; 65534]?)?;
-    stream.extend_from_slice(&LOCK)?;
+/// Feeds pieces, of which so many bytes are to be taken in, and takes all messages after each: how many bytes these have.
+fn taken_size(alloc: Global, feeds: &[(&[u8], usize)]) -> Result<Option<usize>, Fail> {
     let mut inbox = Inbox::make(alloc)?;
     let mut out = TextBuffer::new(alloc);
+    for (piece, count) in feeds {
+        if inbox.feed(piece) != *count || take_all(&mut inbox, &mut out)?.is_some() {
+            return Ok(None);
+        }
+    }
+    Ok(Some(out.finish()?.as_slice().len()))
+}
+
+#[test]
+fn the_longest_message_is_taken(rt: HostRuntime) -> Result<(), Fail> {
+    let alloc = rt.alloc();
+    let longest = message_of(alloc, 3, &vec![in alloc; 5; 65534]?)?;
+    let front = longest.get(..40000).unwrap_or(&[]);
+    let back = longest.get(40000..).unwrap_or(&[]);
+    let feeds = [
+        (LOCK.as_slice(), 6),
+        (front, 40000),
+        (back, 25540),
+        (&LOCK, 6),
+    ];
+    assert_eq!(rt; taken_size(alloc, &feeds)?, Some(65552));
+    Ok(())
+}
+
+#[test]
+fn a_full_inbox_takes_in_nothing(rt: HostRuntime) -> Result<(), Fail> {
+    let alloc = rt.alloc();
+    let longest = message_of(alloc, 3, &vec![in alloc; 5; 65534]?)?;
+    let mut inbox = Inbox::make(alloc)?;
     assert_eq!(rt; inbox.feed(&LOCK), 6);
-    assert_eq!(rt; take_all(&mut inbox, &mut out)?, None);
-    assert_eq!(rt; inbox.free(), 65540);
-    assert_eq!(rt; inbox.feed(stream.get(..40000).unwrap_or(&[])), 40000);
-    assert_eq!(rt; take_all(&mut inbox, &mut out)?, None);
-    let rest = stream.get(40000..).unwrap_or(&[]);
-    assert_eq!(rt; inbox.feed(rest), 25540);
-    assert_eq!(rt; inbox.feed(rest), 0);
-    assert_eq!(rt; inbox.free(), 0);
-    assert_eq!(rt; take_all(&mut inbox, &mut out)?, None);
-    assert_eq!(rt; inbox.feed(&LOCK), 6);
-    assert_eq!(rt; take_all(&mut inbox, &mut out)?, None);
-    assert_eq!(rt; out.finish()?.as_slice().len(), 65552);
+    assert_eq!(rt; inbox.feed(&longest), 65534);
+    assert_eq!(rt; (inbox.free(), inbox.feed(&LOCK)), (0, 0));
     Ok(())
 }
 

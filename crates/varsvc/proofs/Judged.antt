@@ -1,8 +1,11 @@
 -- Where no call fails, what is accepted is done, and what is refused ends with its refusal.
-use Rattle.std.proofs.Common.{◌≡◌, ◌≢◌, ◌⊎◌, ℕ, Bool, false, List, Option, Some, None, Result, Ok, Err, IsOk, IsErr, IfSome, map, inl, inr, ⊎_elim, subst, sym, ◌∙◌, true≢false}
+use Rattle.std.proofs.Common.{◌≡◌, ◌≢◌, ◌⊎◌, ℕ, Bool, false, List, Option, Some, None, Result, Ok, Err, IsOk, IsErr, IfSome, map, inl, inr, ⊎_elim, refl, subst, sym, ◌∙◌, true≢false}
 use Rattle.std.proofs.lemmas.Bool.{cases_eq}
 use Rattle.ftw_mount.specs.Mount.{content_geometry}
+use Rattle.policy_audit.specs.declared.policy_text_fault.PolicyTextFault.{PolicyTextFault}
+use Rattle.policy_audit.specs.Text.{policies_of}
 use Rattle.script_text.specs.Script.{script_of}
+use Rattle.var_types.specs.declared.policy.Policy.{Policy}
 use Rattle.var_types.specs.Kept.{IsSound}
 use Rattle.var_types.specs.Session.{calls_of}
 use Rattle.varsvc.specs.declared.image.inspection.Inspection.{Inspection}
@@ -10,8 +13,9 @@ use Rattle.varsvc.specs.declared.image.inspection.Inspection.TheVariants as insp
 use Rattle.varsvc.specs.declared.words.order.Order.{Order}
 use Rattle.varsvc.specs.declared.words.order.Order.TheVariants as order
 use Rattle.varsvc.specs.declared.words.usage.UsageFault.{UsageFault}
-use Rattle.varsvc.specs.Images.{Inspects, IsImage, IsNoImage, RefusesList}
-use Rattle.varsvc.specs.Outcome.{Counts, IsCalm, Prints, Row, format_row, inspection_row, play_row, row, run_row, text_row, usage_row}
+use Rattle.varsvc.specs.Images.{Inspects, inspected, IsImage, IsNoImage, RefusesList}
+use Rattle.varsvc.specs.Outcome.{Counts, IsCalm, Prints, Row, audit_row, entries_row, format_row, inspection_row, play_row, row, run_row, text_row, usage_row}
+use Rattle.varsvc.specs.PolicyTexts.{Audits, IsNoPolicyText, IsPolicyText, RefusesPolicies, Registers}
 use Rattle.varsvc.specs.Plays.{IsNoPlayScript, IsPlayScript, Plays, RefusesPlay}
 use Rattle.varsvc.specs.Runs.{IsNoScript, IsScript, RefusesScript, Reports}
 use Rattle.varsvc.specs.Told.{Told}
@@ -146,6 +150,56 @@ verdict_text wanted status j = (
   λ refusal is. absurd is,
 )
 
+-- a policy text that is accepted is not refused, and one that is refused is not printed or held against an image
+no_policy_refusal : (input : Option (List ℕ)) (text : List ℕ) → IsPolicyText input → RefusesPolicies input text → ⊥
+no_policy_refusal None text is refused = is
+no_policy_refusal (Some bytes) text is refused = true≢false (sym (subst (λ r. IsOk r) refused.1 is))
+
+no_entries : (input : Option (List ℕ)) (text : List ℕ) → IsNoPolicyText input → Registers input text → ⊥
+no_entries None text is prints = is
+no_entries (Some bytes) text is prints = true≢false (sym (subst (λ r. IsErr r) prints.1 is))
+
+unread_policies : (input : Option (List ℕ)) → IsNoPolicyText input → IfSome input (λ bytes. IsOk (policies_of bytes)) → ⊥
+unread_policies None is ok = is
+unread_policies (Some bytes) is ok = both (policies_of bytes) is ok
+  where
+    both : (r : Result (List Policy) PolicyTextFault) → IsErr r → IsOk r → ⊥
+    both (Ok p) is ok = cc
+    both (Err e) is ok = cc
+
+no_audit : (input : Option (List ℕ)) (image : Option (List ℕ)) (size : ℕ) (text : List ℕ) → IsNoPolicyText input → Audits input image size text → ⊥
+no_audit None image size text is audits = is
+no_audit (Some bytes) image size text is audits = true≢false (sym (subst (λ r. IsErr r) audits.read is))
+
+no_image_audit : (input : Option (List ℕ)) (image : Option (List ℕ)) (size : ℕ) (text : List ℕ) → IsNoImage image → Audits input image size text → ⊥
+no_image_audit input None size text is audits = is
+no_image_audit input (Some bytes) size text is audits =
+    no_listing inspection.Check (Some bytes) size (inspected inspection.Check bytes) is
+    (record { length = audits.length; shown = (audits.shown.0, audits.shown.1, refl) })
+
+verdict_entries : (input : Option (List ℕ)) (status : ℕ) → IsJudged (entries_row input) status → IsVerdict (entries_row input) status
+verdict_entries input status j = (
+  λ is. ⊎_elim (λ h. inl h.0)
+      (⊎_elim (λ h. absurd h.1) (⊎_elim (λ h. absurd (no_policy_refusal input j.text is h.1)) (⊎_elim (λ h. absurd h.1) inr))) j.ended,
+  λ refusal is.
+      ⊎_elim (λ h. absurd (no_entries input j.text is.1 h.1))
+      (⊎_elim (λ h. absurd h.1) (⊎_elim (λ h. inl (h.0 ∙ sym is.0)) (⊎_elim (λ h. absurd h.1) inr))) j.ended,
+)
+
+verdict_audit : (input image : Option (List ℕ)) (size status : ℕ) → IsJudged (audit_row input image size) status
+    → IsVerdict (audit_row input image size) status
+verdict_audit input image size status j = (
+  λ is. ⊎_elim (λ h. inl h.0)
+      (⊎_elim (λ h. absurd h.1)
+      (⊎_elim (λ h. absurd (no_policy_refusal input j.text is.0 h.1)) (⊎_elim (λ h. absurd (no_refusal image size j.text is.1 h.1.1)) inr))) j.ended,
+  λ refusal. ⊎_elim
+      (λ is. ⊎_elim (λ h. absurd (no_audit input image size j.text is.1 h.1))
+      (⊎_elim (λ h. absurd h.1) (⊎_elim (λ h. inl (h.0 ∙ sym is.0)) (⊎_elim (λ h. absurd (unread_policies input is.1 h.1.0)) inr))) j.ended)
+      (λ is. ⊎_elim (λ h. absurd (no_image_audit input image size j.text is.2 h.1))
+      (⊎_elim (λ h. absurd h.1)
+      (⊎_elim (λ h. absurd (no_policy_refusal input j.text is.1 h.1)) (⊎_elim (λ h. inl (h.0 ∙ sym is.0)) inr))) j.ended),
+)
+
 verdict_usage : (fault : UsageFault) (status : ℕ) → IsJudged (usage_row fault) status → IsVerdict (usage_row fault) status
 verdict_usage fault status j = (
   λ is. absurd is,
@@ -165,4 +219,7 @@ all_judged (Ok (order.Check name)) told counts status old new printed calm =
 all_judged (Ok (order.Format name)) told counts status old new printed calm = verdict_format told.size status (judged _ counts status old new printed calm)
 all_judged (Ok (order.Make number)) told counts status old new printed calm = verdict_text _ status (judged _ counts status old new printed calm)
 all_judged (Ok (order.Work number)) told counts status old new printed calm = verdict_text _ status (judged _ counts status old new printed calm)
+all_judged (Ok order.Entries) told counts status old new printed calm = verdict_entries told.input status (judged _ counts status old new printed calm)
+all_judged (Ok (order.Audit name)) told counts status old new printed calm =
+    verdict_audit told.input told.image told.size status (judged _ counts status old new printed calm)
 all_judged (Err fault) told counts status old new printed calm = verdict_usage fault status (judged _ counts status old new printed calm)

@@ -8,6 +8,7 @@ pub mod Scripts
 pub mod PlannedTexts
 pub mod Plans
 pub mod Plays
+pub mod PolicyTexts
 pub mod Runs
 pub mod Volumes
 pub mod Usages

@@ -250,6 +250,8 @@ silent (Ok (order.Check name)) told text none out = cc
 silent (Ok (order.Format name)) told text none out = out.1
 silent (Ok (order.Make number)) told text none out = cc
 silent (Ok (order.Work number)) told text none out = cc
+silent (Ok order.Entries) told text none out = cc
+silent (Ok (order.Audit name)) told text none out = cc
 silent (Err fault) told text none out = cc
 
 outcome_silent : (plan : Plan) (text : List ℕ) → IsOutcome plan 0 text → text ≡ [] → text_of plan ≡ []

@@ -22,6 +22,8 @@ row_untouched (Ok (order.Check name)) told same = tt
 row_untouched (Ok (order.Format name)) told same = tt
 row_untouched (Ok (order.Make number)) told same = tt
 row_untouched (Ok (order.Work number)) told same = tt
+row_untouched (Ok order.Entries) told same = tt
+row_untouched (Ok (order.Audit name)) told same = tt
 row_untouched (Err fault) told same = tt
 
 module _ (asked : Result Order UsageFault) (told : Told) (same : LeavesUntouched told) (plan : Plan) where

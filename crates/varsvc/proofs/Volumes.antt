@@ -9,7 +9,9 @@ use Rattle.flash_dev.specs.Geometry.{geometry_of}
 use Rattle.ftw_mount.specs.declared.kept.Kept.{Kept}
 use Rattle.ftw_mount.specs.Mount.{Describes, content_geometry}
 use Rattle.var_types.specs.Kept.{IsForeign, IsSound, content, kept, work_area}
+use Rattle.policy_audit.specs.Audit.{audit_text}
 use Rattle.report_text.specs.Check.{check_text, facts_of}
+use Rattle.var_types.specs.Region.{region_map}
 use Rattle.var_types.specs.declared.work_state.WorkState.{WorkState}
 use Rattle.var_types.specs.WorkArea.{work_state}
 use Rattle.varsvc.specs.declared.image.inspection.Inspection.{Inspection}
@@ -37,6 +39,8 @@ read_geometry is bytes cells read =
 content_shown : (what : Inspection) (is : Kept) (bytes cells : List ℕ) → IsRead is bytes cells → content_text what is bytes ≡ inspected what cells
 unfolding kept
 content_shown inspection.Listing is bytes cells read = ap volume_listing read.is_content
+content_shown (inspection.Audit policies) is bytes cells read =
+    ap (λ (b : List ℕ). audit_text policies.now (region_map (volume_region b))) read.is_content
 content_shown inspection.Check is bytes cells read =
     ap (λ (b : List ℕ). check_text (facts_of (volume_region b) is.state is.blank)) read.is_content
     ∙ ap (λ (s : WorkState). check_text (facts_of (volume_region (content cells)) s is.blank)) read.describes.state

@@ -26,10 +26,11 @@ bare = record (new_app (codes "varsvc")) {
   };
 }
 
--- the program with its verbs but for `play`, behind which nothing is to be parsed (this project's own)
+-- the program with its verbs but for `play` and `entries`, behind which nothing is to be parsed (this project's own)
 abbrev pub cli : App
 cli =
     with_subcommand
+    (with_subcommand
     (with_subcommand
     (with_subcommand
     (with_subcommand
@@ -37,7 +38,8 @@ cli =
     (operand_app (codes "check") (codes "image")).top)
     (operand_app (codes "format") (codes "image")).top)
     (operand_app (codes "make") (codes "number")).top)
-    (operand_app (codes "work") (codes "number")).top
+    (operand_app (codes "work") (codes "number")).top)
+    (operand_app (codes "audit") (codes "image")).top
 
 -- the word of this name in what was read of a verb
 abbrev pub operand_in : Text → Option (Text × List Row) → Option Text
@@ -52,6 +54,8 @@ operand_word verb.Check = codes "image"
 operand_word verb.Format = codes "image"
 operand_word verb.Make = codes "number"
 operand_word verb.Work = codes "number"
+operand_word verb.Entries = []
+operand_word verb.Audit = codes "image"
 
 -- the word of a verb
 abbrev pub verb_word : Verb → List ℕ
@@ -62,6 +66,8 @@ verb_word verb.Check = codes "check"
 verb_word verb.Format = codes "format"
 verb_word verb.Make = codes "make"
 verb_word verb.Work = codes "work"
+verb_word verb.Entries = codes "entries"
+verb_word verb.Audit = codes "audit"
 
 -- the refusal by the kind of an error
 abbrev pub refusal_of : ErrorKind → UsageFault

@@ -4,6 +4,7 @@ use Rattle.flash_dev.specs.declared.image_fault.ImageFault.{ImageFault}
 use Rattle.flash_dev.specs.declared.image_fault.ImageFault.TheVariants.{Device, ImageSize}
 use Rattle.ftw_mount.specs.declared.kept.Kept.{Kept}
 use Rattle.ftw_mount.specs.Mount.{Describes, content_geometry}
+use Rattle.policy_audit.specs.Audit.{audit_text}
 use Rattle.report_text.specs.Check.{check_text, facts_of}
 use Rattle.report_text.specs.Listing.{listing_text}
 use Rattle.var_types.specs.Census.{Census}
@@ -20,10 +21,11 @@ pub record IsRead (kept : Kept) (bytes image : List ℕ) : Type 0 where
   pub describes : Describes kept image
   pub is_content : bytes ≡ content image
 
--- what is printed of what an image keeps: the listing of its variables, or the check report of its content, its work area and its spare (this
--- project's own)
+-- what is printed of what an image keeps: the listing of its variables, the check report of its content, its work area and its spare, or the
+-- audit of its variables by policies (this project's own)
 abbrev pub inspected : Inspection → List ℕ → List ℕ
 inspected inspection.Listing image = listing_text (kept image)
+inspected (inspection.Audit policies) image = audit_text policies.now (kept image)
 inspected inspection.Check image = check_text (facts_of (content_region image) (work_state (work_area image)) (is_blank (spare image)))
 
 -- this is what is printed of what the image that is told keeps, which is accepted, is no foreign work and has an image's length

@@ -5,6 +5,7 @@ pub mod Input
 pub mod Told
 pub mod Runs
 pub mod Images
+pub mod PolicyTexts
 pub mod Outcome
 pub mod Plan
 pub mod Opened

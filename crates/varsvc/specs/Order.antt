@@ -1,4 +1,4 @@
-use Rattle.std.specs.Prelude.{◌≡◌, ℕ, ◌+◌, ◌==◌, Bool, false, List, [], ◌∷◌, codes, position, if◌then◌else◌, map, string_bytes, String, Option, Some, None, Result, Ok, Err, IsOk}
+use Rattle.std.specs.Prelude.{◌≡◌, ℕ, ◌+◌, ◌==◌, Bool, true, false, List, [], ◌∷◌, codes, position, if◌then◌else◌, map, string_bytes, String, Option, Some, None, Result, Ok, Err, IsOk}
 use Rattle.std.specs.declared.alloc.Global.{Global}
 use Rattle.varsvc.specs.declared.words.order.Order.{Order}
 use Rattle.varsvc.specs.declared.words.order.Order.TheVariants as order
@@ -24,6 +24,8 @@ verb_of word =
     else if pointwise ◌==◌ word (codes "format") then Some verb.Format
     else if pointwise ◌==◌ word (codes "make") then Some verb.Make
     else if pointwise ◌==◌ word (codes "work") then Some verb.Work
+    else if pointwise ◌==◌ word (codes "entries") then Some verb.Entries
+    else if pointwise ◌==◌ word (codes "audit") then Some verb.Audit
     else None
 
 -- the number that is wanted, or that none was read (this project's own)
@@ -39,7 +41,7 @@ abbrev pub numbered : (ℕ → Order) → Result ℕ UsageFault → Result Order
 numbered order (Ok number) = Ok (order number)
 numbered order (Err fault) = Err fault
 
--- the order of a verb with the word behind it: an image, or a number; a play takes none (this project's own)
+-- the order of a verb with the word behind it: an image, or a number; some take none (this project's own)
 abbrev pub order_with : Verb → List ℕ → Result Order UsageFault
 order_with verb.Run image = Ok (order.Run image)
 order_with verb.Play word = Err (usage.Extra 1)
@@ -48,6 +50,8 @@ order_with verb.Check image = Ok (order.Check image)
 order_with verb.Format image = Ok (order.Format image)
 order_with verb.Make number = numbered order.Make (wanted_number number)
 order_with verb.Work number = numbered order.Work (wanted_number number)
+order_with verb.Entries word = Err (usage.Extra 1)
+order_with verb.Audit image = Ok (order.Audit image)
 
 -- the image that an order is about, if it is about one
 abbrev pub image_of : Order → Option (List ℕ)
@@ -58,6 +62,8 @@ image_of (order.Check image) = Some image
 image_of (order.Format image) = Some image
 image_of (order.Make number) = None
 image_of (order.Work number) = None
+image_of order.Entries = None
+image_of (order.Audit image) = Some image
 
 -- the words behind a verb that takes one alone
 abbrev pub one_operand : Verb → List (List ℕ) → Result Order UsageFault
@@ -65,20 +71,25 @@ one_operand verb [] = Err (usage.Missing 1 0)
 one_operand verb (word ∷ []) = order_with verb word
 one_operand verb (word ∷ extra ∷ more) = Err (usage.Extra 2)
 
--- the words behind a play, which takes none
-abbrev pub no_operand : List (List ℕ) → Result Order UsageFault
-no_operand [] = Ok order.Play
-no_operand (word ∷ more) = Err (usage.Extra 1)
+-- whether a verb takes a word: a play and the printing of entries take none (this project's own)
+abbrev pub takes_word : Verb → Bool
+takes_word verb.Play = false
+takes_word verb.Entries = false
+takes_word _ = true
 
--- the words behind a verb: one alone, or none behind a play (this project's own)
+-- the order of a verb that takes no word
+abbrev pub bare_order : Verb → Order
+bare_order verb.Entries = order.Entries
+bare_order _ = order.Play
+
+-- the words behind a verb that takes none
+abbrev pub no_operand : Verb → List (List ℕ) → Result Order UsageFault
+no_operand verb [] = Ok (bare_order verb)
+no_operand verb (word ∷ more) = Err (usage.Extra 1)
+
+-- the words behind a verb: one alone, or none (this project's own)
 abbrev pub operand_order : Verb → List (List ℕ) → Result Order UsageFault
-operand_order verb.Run words = one_operand verb.Run words
-operand_order verb.Play words = no_operand words
-operand_order verb.List words = one_operand verb.List words
-operand_order verb.Check words = one_operand verb.Check words
-operand_order verb.Format words = one_operand verb.Format words
-operand_order verb.Make words = one_operand verb.Make words
-operand_order verb.Work words = one_operand verb.Work words
+operand_order verb words = if takes_word verb then one_operand verb words else no_operand verb words
 
 -- the words behind a verb, the first of which with a dash is at this place
 abbrev pub dashed_order : Verb → List (List ℕ) → Option ℕ → Result Order UsageFault

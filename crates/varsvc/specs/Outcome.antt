@@ -20,6 +20,8 @@ use Rattle.varsvc.specs.FaultLines.{device_line, input_line, memory_line, usage_
 use Rattle.varsvc.specs.Input.{TakesAtMost, most_read}
 use Rattle.varsvc.specs.Images.{Formats, Inspects, IsImage, IsNoImage, RefusesFormat, RefusesList}
 use Rattle.varsvc.specs.Order.{IsRunOrder}
+use Rattle.policy_audit.specs.Text.{policies_of}
+use Rattle.varsvc.specs.PolicyTexts.{Audits, IsNoPolicyText, IsPolicyText, RefusesPolicies, Registers}
 use Rattle.varsvc.specs.Plays.{IsNoPlayScript, IsPlayScript, Plays, RefusesPlay}
 use Rattle.varsvc.specs.Runs.{IsNoScript, IsScript, LeavesUntouched, LeavesVariables, RefusesScript, Reports, Runs}
 use Rattle.varsvc.specs.Told.{Told, told_of}
@@ -166,6 +168,28 @@ text_row wanted = record still_row {
   refused = λ _. ⊥;
 }
 
+-- printing the script that registers the policies of a text, whatever the image is
+abbrev pub entries_row : Option (List ℕ) → Row
+entries_row input = record still_row {
+  output = Registers input;
+  script = RefusesPolicies input;
+  reads = true;
+  accepted = IsPolicyText input;
+  refused = λ status. (status ≡ 3) × IsNoPolicyText input;
+}
+
+-- holding an image against the policies of a text, which is read first
+abbrev pub audit_row : Option (List ℕ) → Option (List ℕ) → ℕ → Row
+audit_row input image size = record still_row {
+  output = Audits input image size;
+  script = RefusesPolicies input;
+  image = λ text. IfSome input (λ bytes. IsOk (policies_of bytes)) × RefusesList image size text;
+  reads = true;
+  opens = true;
+  accepted = IsPolicyText input × IsImage image;
+  refused = λ status. ((status ≡ 3) × IsNoPolicyText input) ⊎ ((status ≡ 4) × IsPolicyText input × IsNoImage image);
+}
+
 -- words that are refused
 abbrev pub usage_row : UsageFault → Row
 usage_row fault = record still_row {
@@ -192,6 +216,8 @@ row (Ok (order.Check name)) told = inspection_row inspection.Check told.image to
 row (Ok (order.Format name)) told = format_row told.size
 row (Ok (order.Make number)) told = text_row (generated_script number)
 row (Ok (order.Work number)) told = text_row (summary_line (work_summary number))
+row (Ok order.Entries) told = entries_row told.input
+row (Ok (order.Audit name)) told = audit_row told.input told.image told.size
 row (Err fault) told = usage_row fault
 
 -- a call that is out of memory: nothing was done, and the line says so; or all was done, and there is no memory to print it; or replies are out
@@ -272,7 +298,7 @@ pub record Performs {S K F : Type 0} (left : S → Option (List ℕ)) (read_faul
   -- where nothing is to be printed, nothing is written
   pub quiet : (row asked (told_of holds size flash_faults moment left_since (left source) flash flash_after)).prints ≡ false → status ≡ 0
       → sink_after ≡ sink
-  -- how much is read: nothing, but by a run or a play
+  -- how much is read: nothing, but by a run, a play, entries or an audit
   pub reads : ReadsInput (row asked (told_of holds size flash_faults moment left_since (left source) flash flash_after)) status (left source) (left source_after)
   pub unread : (row asked (told_of holds size flash_faults moment left_since (left source) flash flash_after)).reads ≡ false → source_after ≡ source
   -- what becomes of the image, and what a power loss may leave of it, unless that is said with the text

@@ -7,6 +7,7 @@ use Rattle.flash_dev.specs.declared.image_fault.ImageFault.TheVariants as image
 use Rattle.image_make.specs.Generated.{generated_script}
 use Rattle.outside.specs.Written.{AppendsPart}
 use Rattle.ftw_mount.specs.declared.kept.Kept.{Kept}
+use Rattle.policy_audit.specs.Audit.{audit_text}
 use Rattle.report_text.specs.Check.{check_text, facts_of}
 use Rattle.report_text.specs.Listing.{listing_text}
 use Rattle.report_text.specs.declared.word.Word.TheVariants as word
@@ -40,6 +41,7 @@ volume_listing volume = listing_text (region_map (volume_region volume))
 -- what is printed of a content, by what was read of work area and spare
 abbrev pub content_text : Inspection → Kept → List ℕ → List ℕ
 content_text inspection.Listing kept content = volume_listing content
+content_text (inspection.Audit policies) kept content = audit_text policies.now (region_map (volume_region content))
 content_text inspection.Check kept content = check_text (facts_of (volume_region content) kept.state kept.blank)
 
 -- whether some reply of a session is out of memory, and the status of its report

@@ -6,7 +6,7 @@ ghost use Rattle.flash_dev.specs.Rules.{IsKept};
 ghost use Rattle.image_make.specs.Generated.{generated_script};
 ghost use Rattle.report_text.specs.Summary.{summary_line};
 ghost use Rattle.varsvc.specs.Order.{IsRunOrder, asked};
-ghost use Rattle.varsvc.specs.Outcome.{FailsAt, FlashFails, IsText, LeavesImage, ReadsInput, format_row, inspection_row, play_row, row, text_row};
+ghost use Rattle.varsvc.specs.Outcome.{FailsAt, FlashFails, IsText, LeavesImage, ReadsInput, audit_row, entries_row, format_row, inspection_row, play_row, row, text_row};
 ghost use Rattle.varsvc.specs.Plan.{HasPlanValues, IsStreamed, status_of, text_of};
 ghost use Rattle.varsvc.specs.Told.{told_of};
 ghost use Rattle.varsvc.specs.Work.{work_summary};
@@ -14,6 +14,7 @@ ghost use Rattle.varsvc.specs.Work.{work_summary};
 use crate::image::{Inspection, plan_format, plan_inspection};
 use crate::output::{Plan, Planned, Streamed, plan_usage};
 use crate::play::plan_play;
+use crate::policies::{plan_audit, plan_entries};
 use crate::run::{plan_run, plan_work};
 use crate::words::{Order, read_words};
 use flash_dev::Flash;
@@ -21,7 +22,7 @@ use outside::Source;
 use std::alloc::Global;
 
 fn plan_inspected<F: Flash>(alloc: Global, what: Inspection, image: F) -> Planned<F>
-    ensures text { IsText (inspection_row what (F.holds image) (F.size image)) (status_of result.plan) (text_of result.plan) }
+    ensures text { IsText (inspection_row what.entry (F.holds image) (F.size image)) (status_of result.plan) (text_of result.plan) }
     ensures cause { FailsAt 7 (status_of result.plan) (F.fault_count image) (F.fault_count result.image) }
     ensures kept { F.holds result.image ≡ F.holds image }
     ensures at_any_moment { Stays IsKept F.moment F.left_since F.holds image result.image }
@@ -79,6 +80,33 @@ fn plan_worked<F: Flash>(alloc: Global, number: u32, image: F) -> Planned<F>
     }
 }
 
+fn plan_entered<S: Source, F: Flash>(alloc: Global, script: &mut S, image: F) -> Planned<F>
+    ensures text { IsText (entries_row (S.left script.old)) (status_of result.plan) (text_of result.plan) }
+    ensures source { FailsAt 6 (status_of result.plan) (S.fault_count script.old) (S.fault_count script.new) }
+    ensures device { status_of result.plan ≢ 7 }
+    ensures reads { ReadsInput (entries_row (S.left script.old)) (status_of result.plan) (S.left script.old) (S.left script.new) }
+    ensures image { result.image ≡ image }
+{
+    Planned {
+        plan: plan_entries(alloc, script),
+        image,
+    }
+}
+
+fn plan_audited<S: Source, F: Flash>(alloc: Global, script: &mut S, image: F) -> Planned<F>
+    ensures text { IsText (audit_row (S.left script.old) (F.holds image) (F.size image)) (status_of result.plan) (text_of result.plan) }
+    ensures source { FailsAt 6 (status_of result.plan) (S.fault_count script.old) (S.fault_count script.new) }
+    ensures reads { ReadsInput (audit_row (S.left script.old) (F.holds image) (F.size image)) (status_of result.plan) (S.left script.old) (S.left script.new) }
+    ensures cause { FailsAt 7 (status_of result.plan) (F.fault_count image) (F.fault_count result.image) }
+    ensures kept { F.holds result.image ≡ F.holds image }
+    ensures at_any_moment { Stays IsKept F.moment F.left_since F.holds image result.image }
+    ensures size { F.size result.image ≡ F.size image }
+{
+    let mut image = image;
+    let plan = plan_audit(alloc, script, &mut image);
+    Planned { plan, image }
+}
+
 /// Does what the words ask for, and plans what is to be printed. The words are read once.
 pub fn plan_asked<S: Source, F: Flash>(
     alloc: Global,
@@ -107,6 +135,8 @@ pub fn plan_asked<S: Source, F: Flash>(
         Ok(Order::Format { .. }) => plan_formatted(alloc, image),
         Ok(Order::Make { number }) => plan_made(number, image),
         Ok(Order::Work { number }) => plan_worked(alloc, number, image),
+        Ok(Order::Entries) => plan_entered(alloc, script, image),
+        Ok(Order::Audit { .. }) => plan_audited(alloc, script, image),
         Err(fault) => Planned {
             plan: plan_usage(alloc, fault),
             image,

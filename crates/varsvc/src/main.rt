@@ -7,6 +7,7 @@ mod input;
 mod laws;
 mod output;
 mod play;
+mod policies;
 mod program;
 mod run;
 #[cfg(test)]

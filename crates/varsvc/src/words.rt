@@ -13,4 +13,4 @@ pub use order::Order;
 pub use parse::{operand_in, parse, refusal_of};
 pub use reading::read_words;
 pub use usage::UsageFault;
-pub use verb::{Verb, operand_word, verb_of};
+pub use verb::{Verb, operand_word, takes_word, verb_of};

@@ -10,7 +10,9 @@ ghost use Rattle.varsvc.specs.declared.image.inspection.Inspection.TheVariants.{
 ghost use Rattle.varsvc.specs.FaultLines.{foreign_line, image_line};
 ghost use Rattle.varsvc.specs.Images.{IsRead};
 ghost use Rattle.varsvc.specs.Outcome.{FailsAt, IsText, LeavesImage, format_row, inspection_row};
-ghost use Rattle.varsvc.specs.Plan.{IsStreamed, content_text, PlansFault, PlansLine, status_of, text_of};
+ghost use Rattle.policy_audit.specs.Audit.{audit_text};
+ghost use Rattle.var_types.specs.Region.{region_map};
+ghost use Rattle.varsvc.specs.Plan.{IsStreamed, content_text, PlansFault, PlansLine, status_of, text_of, volume_region};
 
 use crate::image::{Content, Inspection};
 use crate::input::zeros;
@@ -19,6 +21,7 @@ use flash_dev::{
     Flash, HEADERS_BYTES, IMAGE_BYTES, ImageFault, VOLUME_BYTES, format_image, geometry_of,
 };
 use ftw_mount::{Kept, read_kept};
+use policy_audit::{Policies, write_audit};
 use report_text::{CheckFacts, check_facts, write_check};
 use std::alloc::Global;
 use var_region::Region;
@@ -70,10 +73,22 @@ fn plan_facts(alloc: Global, facts: &CheckFacts) -> Plan
     plan_text(0, text)
 }
 
+// Plans the audit of a content by policies.
+fn plan_audited(alloc: Global, policies: &Policies, content: &Content) -> Plan
+    ensures { PlansLine 0 (audit_text policies.now (region_map (volume_region content.now))) result }
+{
+    let region = Region::over(content.as_slice(), HEADERS_BYTES as u32, true);
+    let mut text = TextBuffer::new(alloc);
+    match write_audit(alloc, policies, &region, &mut text) {
+        Ok(()) => plan_text(0, text),
+        Err(_) => Plan::NoMemory,
+    }
+}
+
 // Plans what is printed of a content that is accepted, unless it is that of foreign work.
 fn plan_kept(alloc: Global, what: Inspection, kept: Kept, content: Content) -> Plan
     requires accepted { IsOk (geometry_of (take headers_size content)) }
-    ensures text { (told : Option (List ℕ)) → IfSome told (IsRead kept content) → IsText (inspection_row what told image_size) (status_of result) (text_of result) }
+    ensures text { (told : Option (List ℕ)) → IfSome told (IsRead kept content) → IsText (inspection_row what.entry told image_size) (status_of result) (text_of result) }
     ensures device { status_of result ≢ 7 }
 {
     if kept.is_foreign() {
@@ -84,12 +99,13 @@ fn plan_kept(alloc: Global, what: Inspection, kept: Kept, content: Content) -> P
             streamed: Streamed::Listing { content },
         },
         Inspection::Check => plan_checked(alloc, kept, &content),
+        Inspection::Audit(policies) => plan_audited(alloc, policies, &content),
     }
 }
 
 // Plans what is printed of what was read of an image, or the refusal of it.
 fn plan_content(alloc: Global, what: Inspection, kept: Kept, content: Content) -> Plan
-    ensures text { (told : Option (List ℕ)) → IfSome told (IsRead kept content) → IsText (inspection_row what told image_size) (status_of result) (text_of result) }
+    ensures text { (told : Option (List ℕ)) → IfSome told (IsRead kept content) → IsText (inspection_row what.entry told image_size) (status_of result) (text_of result) }
     ensures device { status_of result ≢ 7 }
 {
     match geometry_of(&content.as_slice()[..HEADERS_BYTES]) {
@@ -102,7 +118,7 @@ fn plan_content(alloc: Global, what: Inspection, kept: Kept, content: Content) -
 fn plan_read<F: Flash>(alloc: Global, what: Inspection, flash: &mut F, content: Vec<u8>) -> Plan
     requires size { F.size flash.old ≡ image_size }
     requires content { vec_len content ≡ volume_size }
-    ensures text { IsText (inspection_row what (F.holds flash.old) (F.size flash.old)) (status_of result) (text_of result) }
+    ensures text { IsText (inspection_row what.entry (F.holds flash.old) (F.size flash.old)) (status_of result) (text_of result) }
     ensures cause { FailsAt 7 (status_of result) (F.fault_count flash.old) (F.fault_count flash.new) }
     ensures kept { F.holds flash.new ≡ F.holds flash.old }
     ensures at_any_moment { Stays IsKept F.moment F.left_since F.holds flash.old flash.new }
@@ -118,7 +134,7 @@ fn plan_read<F: Flash>(alloc: Global, what: Inspection, flash: &mut F, content: 
 // Plans what is printed of an image of the right length, where there is memory for what it keeps.
 fn plan_image<F: Flash>(alloc: Global, what: Inspection, flash: &mut F) -> Plan
     requires { F.size flash.old ≡ image_size }
-    ensures text { IsText (inspection_row what (F.holds flash.old) (F.size flash.old)) (status_of result) (text_of result) }
+    ensures text { IsText (inspection_row what.entry (F.holds flash.old) (F.size flash.old)) (status_of result) (text_of result) }
     ensures cause { FailsAt 7 (status_of result) (F.fault_count flash.old) (F.fault_count flash.new) }
     ensures kept { F.holds flash.new ≡ F.holds flash.old }
     ensures at_any_moment { Stays IsKept F.moment F.left_since F.holds flash.old flash.new }
@@ -132,7 +148,7 @@ fn plan_image<F: Flash>(alloc: Global, what: Inspection, flash: &mut F) -> Plan
 
 /// Lists or checks what an image keeps; its bytes stay. An image in the middle of a write is taken as it will be after a mount.
 pub fn plan_inspection<F: Flash>(alloc: Global, what: Inspection, flash: &mut F) -> Plan
-    ensures text { IsText (inspection_row what (F.holds flash.old) (F.size flash.old)) (status_of result) (text_of result) }
+    ensures text { IsText (inspection_row what.entry (F.holds flash.old) (F.size flash.old)) (status_of result) (text_of result) }
     ensures cause { FailsAt 7 (status_of result) (F.fault_count flash.old) (F.fault_count flash.new) }
     ensures kept { F.holds flash.new ≡ F.holds flash.old }
     ensures at_any_moment { Stays IsKept F.moment F.left_since F.holds flash.old flash.new }

@@ -19,6 +19,10 @@ pub enum Order {
     Make { number: u32 },
     /// Run the script of a number on a blank image in memory.
     Work { number: u32 },
+    /// Print the script that registers the policies of a text.
+    Entries,
+    /// Hold the non-volatile variables of an image against the policies of a text.
+    Audit { image: ImageName },
 }
 
 impl Order {
@@ -32,8 +36,9 @@ impl Order {
             Order::Run { image }
             | Order::List { image }
             | Order::Check { image }
-            | Order::Format { image } => Some(image),
-            Order::Play | Order::Make { .. } | Order::Work { .. } => None,
+            | Order::Format { image }
+            | Order::Audit { image } => Some(image),
+            Order::Play | Order::Entries | Order::Make { .. } | Order::Work { .. } => None,
         }
     }
 }

@@ -30,6 +30,7 @@ fn command<'a>(alloc: Global) -> Result<Command<'a>, AllocError>
     let format = operand_command(alloc, "format", "image")?;
     let make = operand_command(alloc, "make", "number")?;
     let work = operand_command(alloc, "work", "number")?;
+    let audit = operand_command(alloc, "audit", "image")?;
     let bare = Command::new(alloc, "varsvc")
         .no_binary_name(true)
         .disable_help_flag(true)
@@ -40,7 +41,8 @@ fn command<'a>(alloc: Global) -> Result<Command<'a>, AllocError>
         .subcommand(check)?
         .subcommand(format)?
         .subcommand(make)?
-        .subcommand(work)
+        .subcommand(work)?
+        .subcommand(audit)
 }
 
 /// Parses a verb and the words behind it.

@@ -1,11 +1,11 @@
-ghost use Rattle.std.specs.Prelude.{◌≡◌, ◌≢◌, ◌==◌, ◌<◌, ℕ, List, ◌∷◌, length, map, position, string_bytes, None, Some, IfSome, MatchResult};
+ghost use Rattle.std.specs.Prelude.{◌≡◌, true, ◌==◌, ◌<◌, ℕ, List, ◌∷◌, length, map, position, string_bytes, None, Some, IfSome, MatchResult};
 ghost use Rattle.clap.specs.Words.{subcommand_rows_of};
 ghost use Rattle.varsvc.specs.Cli.{operand_in, operand_word, verb_word};
-ghost use Rattle.varsvc.specs.Order.{order_of, verb_order, operand_order, one_operand, no_operand, is_dashed, order_with, wanted_number, GivesOrder, IsUsage};
+ghost use Rattle.varsvc.specs.Order.{order_of, verb_order, operand_order, one_operand, no_operand, bare_order, takes_word, is_dashed, order_with, wanted_number, GivesOrder, IsUsage};
 
 use crate::words::{
     ImageName, Order, UsageFault, Verb, number_of, operand_in, operand_word, parse, refusal_of,
-    verb_of,
+    takes_word, verb_of,
 };
 use clap::ArgMatches;
 use clap::error::ErrorKind;
@@ -53,7 +53,7 @@ fn order_with(alloc: Global, verb: Verb, word: &str) -> Result<Order, UsageFault
         Verb::Run => Ok(Order::Run {
             image: name_of(alloc, word)?,
         }),
-        Verb::Play => Err(UsageFault::Extra { at: 1 }),
+        Verb::Play | Verb::Entries => Err(UsageFault::Extra { at: 1 }),
         Verb::List => Ok(Order::List {
             image: name_of(alloc, word)?,
         }),
@@ -69,6 +69,9 @@ fn order_with(alloc: Global, verb: Verb, word: &str) -> Result<Order, UsageFault
         Verb::Work => Ok(Order::Work {
             number: wanted_number(word)?,
         }),
+        Verb::Audit => Ok(Order::Audit {
+            image: name_of(alloc, word)?,
+        }),
     }
 }
 
@@ -77,8 +80,10 @@ fn refused_operand(verb: Verb, word: &String) -> UsageFault
     ensures { IsUsage result (order_with verb (string_bytes word.now)) }
 {
     match verb {
-        Verb::Run | Verb::List | Verb::Check | Verb::Format => UsageFault::OutOfMemory,
-        Verb::Play => UsageFault::Extra { at: 1 },
+        Verb::Run | Verb::List | Verb::Check | Verb::Format | Verb::Audit => {
+            UsageFault::OutOfMemory
+        }
+        Verb::Play | Verb::Entries => UsageFault::Extra { at: 1 },
         Verb::Make | Verb::Work => match wanted_number(word.as_str()) {
             Ok(_) => UsageFault::OutOfMemory,
             Err(fault) => fault,
@@ -113,7 +118,7 @@ fn one_operand(
     words: &[String],
     rest: &[String],
 ) -> Result<Order, UsageFault>
-    requires other { verb ≢ Verb.Play }
+    requires other { takes_word verb ≡ true }
     requires words { map string_bytes words.now ≡ verb_word verb ∷ map string_bytes rest.now }
     requires undashed { position is_dashed (map string_bytes rest.now) ≡ None }
     ensures { GivesOrder result (one_operand verb (map string_bytes rest.now)) }
@@ -127,12 +132,22 @@ fn one_operand(
     }
 }
 
-// What the words behind a play ask for.
-fn no_operand(rest: &[String]) -> Result<Order, UsageFault>
-    ensures { GivesOrder result (no_operand (map string_bytes rest.now)) }
+// The order of a verb that takes no word.
+fn bare_order(verb: Verb) -> Order
+    ensures { result ≡ bare_order verb }
+{
+    match verb {
+        Verb::Entries => Order::Entries,
+        _ => Order::Play,
+    }
+}
+
+// What the words behind a verb that takes none ask for.
+fn no_operand(verb: Verb, rest: &[String]) -> Result<Order, UsageFault>
+    ensures { GivesOrder result (no_operand verb (map string_bytes rest.now)) }
 {
     if rest.is_empty() {
-        Ok(Order::Play)
+        Ok(bare_order(verb))
     } else {
         Err(UsageFault::Extra { at: 1 })
     }
@@ -149,10 +164,10 @@ fn operand_order(
     requires undashed { position is_dashed (map string_bytes rest.now) ≡ None }
     ensures { GivesOrder result (operand_order verb (map string_bytes rest.now)) }
 {
-    match verb {
-        Verb::Play => no_operand(rest),
-        _ => one_operand(alloc, verb, words, rest),
+    if takes_word(verb) {
+        return one_operand(alloc, verb, words, rest);
     }
+    no_operand(verb, rest)
 }
 
 #[tactic(auto, unfolding(crate::specs::Order::verb_order))]

@@ -8,8 +8,10 @@ pub returns : goal.returns
 returns c =
     let top : App → _ = λ a. a.top in
     let bare_is : app_of c.disable_version_flag-bare.result ≡ bare = search rules in
-    IfOk-weaker c.subcommand-6.result _ _
-    (λ r added. added.shape c.in_ok-work.ensures.local
+    IfOk-weaker c.subcommand-7.result _ _
+    (λ r added. added.shape c.in_ok-audit.ensures.local
+    ∙ ap₂ with_subcommand
+    (c.in_ok-subcommand-6.ensures.shape c.in_ok-work.ensures.local
     ∙ ap₂ with_subcommand
     (c.in_ok-subcommand-5.ensures.shape c.in_ok-make.ensures.local
     ∙ ap₂ with_subcommand
@@ -24,4 +26,5 @@ returns c =
     (ap top c.in_ok-format.ensures.app))
     (ap top c.in_ok-make.ensures.app))
     (ap top c.in_ok-work.ensures.app))
-    c.subcommand-6.ensures
+    (ap top c.in_ok-audit.ensures.app))
+    c.subcommand-7.ensures

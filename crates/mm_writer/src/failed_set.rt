@@ -10,9 +10,9 @@ use var_types::{Bytes, Guid, SetCall, Units, Verdict};
 /// memory here.
 #[derive(Drop)]
 pub(crate) struct FailedSet {
-    pub(crate) caller: Caller,
-    pub(crate) place: u64,
-    pub(crate) call: Snapshot<SetCall>,
+    caller: Caller,
+    place: u64,
+    call: Snapshot<SetCall>,
 }
 
 impl Model for FailedSet {

@@ -1,7 +1,8 @@
 #!/usr/bin/env bash
-# Fails and stops each write to the image's file in runs of several kinds: a variable put in place, one put through the spare, a deletion, and an
-# opening that finishes a pending write; once, twice in a row, and twice with one write between. What the image keeps then is compared with a model:
-# what the answered changes leave, or that with the one set that failed. Each image is listed, run on with no call, listed again, and set once more.
+# Fails and stops each write to the image's file in runs of several kinds: a variable put in place; one put through the spare, which is blank or
+# used, or with all slots of the work area used; a deletion; and an opening that finishes a pending write; once, twice in a row, and twice with one
+# write between. What the image keeps then is compared with a model: what the answered changes leave, or that with the one set that failed. Each
+# image is listed, run on with no call, listed again, and set once more.
 # It fails each read of the script and each write of the report too. Needs strace and python3.
 # usage: bench/failing.sh [PROGRAM]      (default: the program that ./varsvc builds)
 set -eu
@@ -181,6 +182,14 @@ def pending(image, copy, text):
     return False
 
 
+def use_slots(image):
+    """Puts one variable through the spare until all slots of the work area are used."""
+    byte = 0
+    while "work clean 255" not in run("check", image)[1]:
+        byte = byte % 255 + 1
+        assert run("run", image, line("M", f"{byte:02x}" * 26000) + "\n")[0] == 0
+
+
 def main():
     with tempfile.TemporaryDirectory() as folder:
         image, copy = os.path.join(folder, "image"), os.path.join(folder, "copy")
@@ -190,8 +199,15 @@ def main():
             run("format", image)
             assert run("run", image, "\n".join(first) + "\n")[0] == 0
             fail_writes(name, image, copy, variables(image), calls)
+        first, calls = CASES["through the spare"]
         run("format", image)
-        assert run("run", image, "\n".join(CASES["through the spare"][0]) + "\n")[0] == 0
+        assert run("run", image, "\n".join([*first, line("M", "44" * 26000)]) + "\n")[0] == 0
+        assert "spare used" in run("check", image)[1]
+        fail_writes("through a spare that is used", image, copy, variables(image), calls)
+        use_slots(image)
+        fail_writes("through the spare, all slots used", image, copy, variables(image), calls)
+        run("format", image)
+        assert run("run", image, "\n".join(first) + "\n")[0] == 0
         assert pending(image, copy, line("M", "44" * 26000) + "\n")
         shutil.copy(copy, image)
         fail_writes("opening that finishes a write", image, copy, variables(image), BEHIND)
